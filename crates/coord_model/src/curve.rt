@@ -1,0 +1,40 @@
+//! The curves by name, and the numbers that they stand for.
+ghost use Rattle.std.specs.Prelude.{◌≡◌};
+ghost use Rattle.coord_model.specs.Form.{form_of};
+
+/// A dependent-time curve. IEC 60255-151: A inverse, B very inverse, C extremely inverse.
+/// IEEE C37.112: MI moderately, VI very, EI extremely inverse.
+#[derive(Clone, Copy, PartialEq, Eq, Debug)]
+pub enum CurveName {
+    IecA,
+    IecB,
+    IecC,
+    IeeeMi,
+    IeeeVi,
+    IeeeEi,
+}
+
+/// The numbers of a curve: `k / (M^(e/h) - 1) + c` seconds at the multiple of pickup M. `k4` and `c4` are
+/// k and c in ten-thousandths of a second.
+#[derive(Clone, Copy, PartialEq, Eq, Debug)]
+pub struct CurveForm {
+    pub k4: u32,
+    pub c4: u32,
+    pub e: u32,
+    pub h: u32,
+}
+
+/// The numbers of a curve, as IEC 60255-151 and IEEE C37.112 give them.
+pub fn form(curve: CurveName) -> CurveForm
+    ensures { result ≡ form_of curve }
+{
+    let (k4, c4, e, h) = match curve {
+        CurveName::IecA => (1_400, 0, 1, 50),
+        CurveName::IecB => (135_000, 0, 1, 1),
+        CurveName::IecC => (800_000, 0, 2, 1),
+        CurveName::IeeeMi => (515, 1_140, 1, 50),
+        CurveName::IeeeVi => (196_100, 4_910, 2, 1),
+        CurveName::IeeeEi => (282_000, 1_217, 2, 1),
+    };
+    CurveForm { k4, c4, e, h }
+}
