@@ -1,3 +1,10 @@
+pub mod Allowed
 pub mod Choice
+pub mod Cost
+pub mod Enclosure
 pub mod Form
+pub mod Limits
 pub mod Name
+pub mod Rows
+pub mod StudyData
+pub mod Time

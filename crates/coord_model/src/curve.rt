@@ -38,3 +38,35 @@ pub fn form(curve: CurveName) -> CurveForm
     };
     CurveForm { k4, c4, e, h }
 }
+
+/// A curve of operating times.
+///
+/// `enclose` takes the multiple of pickup `num/den`, from 1.05 to 30, and answers the two ends of the time at
+/// dial 1 in whole nanoseconds: the first at most the curve's time, the second at least it.
+pub trait Curve {
+    ghost use Rattle.std.specs.Prelude.{◌≡◌, ℕ, ◌+◌, ◌^◌, ◌≤◌};
+    ghost use Rattle.coord_model.specs.Enclosure.{Root, enclosure, width_of, IsEnclosable, IsAtMost, IsNotAbove};
+    ghost use Rattle.coord_model.specs.Time.{Multiple, IsUnder, IsOver};
+    ghost use Rattle.coord_model.specs.declared.curve.CurveForm.{CurveForm};
+
+    /// The numbers of the curve.
+    ghost numbers: { Self → CurveForm };
+
+    /// The ends that it takes for the fiftieth root of a multiple.
+    ghost root: { Multiple → Root };
+
+    fn form(&self) -> CurveForm
+        ensures { result ≡ numbers self.now };
+
+    fn enclose(&self, num: u64, den: u64) -> (u64, u64)
+        requires { IsEnclosable (record { num = num; den = den }) }
+        ensures exact { let m : Multiple = record { num = num; den = den } in
+            let ends = enclosure (numbers self.now) (root m) m in result ≡ (ends.lower, ends.upper) }
+        ensures under { IsUnder (numbers self.now) (record { num = num; den = den }) result.0 (10 ^ 9) }
+        ensures over { IsOver (numbers self.now) (record { num = num; den = den }) result.1 (10 ^ 9) }
+        ensures narrow { result.1 ≤ result.0 + width_of (numbers self.now) };
+
+    /// Neither end rises as the multiple grows.
+    ghost falls: { (c : Self) (m m' : Multiple) → IsEnclosable m → IsEnclosable m' → IsAtMost m m'
+        → IsNotAbove (enclosure (numbers c) (root m') m') (enclosure (numbers c) (root m) m) };
+}

@@ -12,7 +12,7 @@ mod name;
 mod study;
 
 pub use choice::{Choice, Ending};
-pub use curve::{CurveForm, CurveName, form};
+pub use curve::{Curve, CurveForm, CurveName, form};
 pub use kinds::{Key, NetKind, TableName, What};
 pub use memory::NoMemory;
 pub use name::Name;

@@ -1,0 +1,61 @@
+-- The enclosure of an operating time at dial 1 in whole nanoseconds (ours): the lower end is at most the curve's
+-- time, the upper end at least it.
+use Rattle.std.specs.Prelude.{ℕ, ◌+◌, ◌-◌, ◌*◌, ◌/◌, ◌^◌, ◌≤◌, ◌==◌, if◌then◌else◌}
+use Rattle.std.specs.Int.{div_ceil}
+use Rattle.coord_model.specs.Time.{Multiple}
+use Rattle.coord_model.specs.declared.curve.CurveForm.{CurveForm}
+
+-- the two ends of an operating time, in nanoseconds
+pub record Enclosure : Type 0 where
+  pub lower : ℕ
+  pub upper : ℕ
+
+-- two ends of the fiftieth root of a multiple, in units of 2^-56
+pub record Root : Type 0 where
+  pub low : ℕ
+  pub high : ℕ
+
+-- the constant term of a curve, in nanoseconds
+abbrev pub constant_ns : CurveForm → ℕ
+constant_ns form = form.c4 * 100000
+
+-- with a whole exponent: the time rounded down and rounded up
+abbrev pub whole_enclosure : CurveForm → Multiple → Enclosure
+whole_enclosure form m =
+    let above = m.num ^ form.e - m.den ^ form.e in
+    let scaled = form.k4 * 100000 * m.den ^ form.e in
+    record { lower = scaled / above + constant_ns form; upper = div_ceil scaled above + constant_ns form }
+
+-- with a fiftieth as exponent: the time at the root's high end rounded down, and at its low end rounded up
+abbrev pub root_enclosure : CurveForm → Root → Enclosure
+root_enclosure form root =
+    let scaled = form.k4 * 100000 * 2 ^ 56 in
+    record {
+      lower = scaled / (root.high - 2 ^ 56) + constant_ns form;
+      upper = div_ceil scaled (root.low - 2 ^ 56) + constant_ns form;
+    }
+
+-- the enclosure of a curve's time at a multiple, given the ends of the multiple's fiftieth root
+abbrev pub enclosure : CurveForm → Root → Multiple → Enclosure
+enclosure form root m = if form.h == 1 then whole_enclosure form m else root_enclosure form root
+
+-- how far apart the ends may lie, in nanoseconds
+abbrev pub width_of : CurveForm → ℕ
+width_of form = if form.h == 1 then 1 else 100
+
+-- a multiple whose time is enclosed: from 1.05 to 30, of numbers within the limits
+pub record IsEnclosable (m : Multiple) : Type 0 where
+  pub num : m.num ≤ 3000000000
+  pub some : 1 ≤ m.den
+  pub den : m.den ≤ 100000000
+  pub above_one : 105 * m.den ≤ 100 * m.num
+  pub at_most_thirty : m.num ≤ 30 * m.den
+
+-- one multiple is at most another
+abbrev pub IsAtMost : Multiple → Multiple → Type 0
+IsAtMost m m' = m.num * m'.den ≤ m'.num * m.den
+
+-- neither end of the later enclosure lies above that of the earlier one
+pub record IsNotAbove (later earlier : Enclosure) : Type 0 where
+  pub lower : later.lower ≤ earlier.lower
+  pub upper : later.upper ≤ earlier.upper
