@@ -1,0 +1,87 @@
+-- The text of a settings sheet (ours): its head, a line for each relay where settings are issued, and `end`.
+use Rattle.std.specs.Prelude.{◌≡◌, ℕ, ◌^◌, ◌<◌, Option, Some, None, is_some, List, [], ◌++◌, codes, slice_get, slice_index, IfSome, IsSome, IsNone}
+use Rattle.std.specs.Fmt.{decimal}
+use Rattle.std.specs.List.{flat_map}
+use Rattle.std.specs.Option.{option_map_or, option_map}
+use Rattle.coord_model.specs.Allowed.{AreOnSteps}
+use Rattle.coord_model.specs.Choice.{Settings, choice_data}
+use Rattle.coord_model.specs.Rows.{relay_numbers}
+use Rattle.coord_model.specs.StudyData.{StudyData}
+use Rattle.coord_model.specs.Time.{plug_at, dial_at}
+use Rattle.coord_model.specs.declared.choice.Ending.{Ending}
+use Rattle.coord_model.specs.declared.choice.Ending.TheVariants.{Closed, NoSettings, BudgetSpent, Hairline}
+use Rattle.coord_model.specs.declared.study.Relay.{Relay}
+use Rattle.coord_text.specs.Numbers.{fixed}
+use Rattle.settings_sheet.specs.declared.sheet.Sheet.{Sheet}
+
+-- what a sheet says
+pub record SheetData : Type 0 where
+  pub ending : Ending
+  pub cost : Option ℕ
+  pub bound : Option ℕ
+  pub settings : Option Settings
+
+-- the data of a sheet
+abbrev pub sheet_data : Sheet → SheetData
+sheet_data sheet = record {
+  ending = sheet.ending;
+  cost = sheet.cost;
+  bound = sheet.bound;
+  settings = option_map choice_data sheet.choice;
+}
+
+-- the ending in a word
+abbrev pub ending_word : Ending → List ℕ
+ending_word Closed = codes "closed"
+ending_word NoSettings = codes "no-settings"
+ending_word BudgetSpent = codes "budget-spent"
+ending_word Hairline = codes "hairline"
+
+-- a number in digits, or `none`
+abbrev pub amount : Option ℕ → List ℕ
+amount None = codes "none"
+amount (Some n) = decimal n
+
+-- the line of a relay: its plug in secondary amperes and its dial
+abbrev pub relay_line : Relay → ℕ → ℕ → List ℕ
+relay_line relay pickup dial =
+    codes "relay " ++ relay.name ++ codes " plug " ++ fixed 2 (plug_at relay pickup) ++ codes " dial " ++ fixed 3 (dial_at relay dial) ++ codes "\n"
+
+-- the line of the relay with a number
+abbrev pub relay_line_at : StudyData → Settings → ℕ → List ℕ
+relay_line_at study settings i =
+    option_map_or (λ relay. relay_line relay (slice_index settings.pickup i) (slice_index settings.dial i)) (slice_get study.relays i) []
+
+-- the lines of the relays, in study order
+unfoldable pub relay_lines : StudyData → Settings → List ℕ
+relay_lines study settings = flat_map (relay_line_at study settings) (relay_numbers study)
+
+-- a line with a label and a value
+unfoldable pub labelled : List ℕ → List ℕ → List ℕ
+labelled label value = label ++ value ++ codes "\n"
+
+-- the lines that begin a sheet
+abbrev pub head_text : SheetData → List ℕ
+head_text sheet =
+    labelled (codes "coord-sheet ") (codes "1") ++ labelled (codes "ending ") (ending_word sheet.ending)
+    ++ labelled (codes "cost ") (amount sheet.cost) ++ labelled (codes "bound ") (amount sheet.bound)
+
+-- the text of a sheet
+abbrev pub sheet_text : StudyData → SheetData → List ℕ
+sheet_text study sheet =
+    head_text sheet ++ option_map_or (relay_lines study) sheet.settings [] ++ codes "end\n"
+
+-- the cost and the bound go with the ending
+abbrev pub GoesWith : Ending → Option ℕ → Option ℕ → Type 0
+GoesWith Closed cost bound = IsSome cost × IsSome bound
+GoesWith NoSettings cost bound = IsNone cost × IsNone bound
+GoesWith BudgetSpent cost bound = IsSome bound
+GoesWith Hairline cost bound = IsSome bound
+
+-- a sheet of the study: numbers that go with its ending, and settings on the steps exactly where it has a cost
+pub record IsSheet (study : StudyData) (sheet : SheetData) : Type 0 where
+  pub goes : GoesWith sheet.ending sheet.cost sheet.bound
+  pub cost : IfSome sheet.cost (λ cost. cost < 10 ^ 16)
+  pub bound : IfSome sheet.bound (λ bound. bound < 10 ^ 16)
+  pub issued : is_some sheet.settings ≡ is_some sheet.cost
+  pub on_steps : IfSome sheet.settings (AreOnSteps study)

@@ -1,0 +1,81 @@
+//! The text of a settings sheet.
+ghost use Rattle.std.specs.Prelude.{◌≡◌, ◌++◌, codes, IfOk, OnOk};
+ghost use Rattle.coord_model.specs.Limits.{FitsStudy};
+ghost use Rattle.coord_model.specs.StudyData.{study_data};
+ghost use Rattle.settings_sheet.specs.SheetText.{IsSheet, amount, ending_word, head_text, labelled, sheet_data, sheet_text};
+
+use crate::lines::push_relay_lines;
+use crate::sheet::Sheet;
+use coord_model::{Ending, NoMemory, Study};
+use coord_text::push_number;
+use std::alloc::Global;
+
+/// The text of a sheet of the study.
+pub fn sheet_bytes(alloc: Global, study: &Study, sheet: &Sheet) -> Result<Vec<u8>, NoMemory>
+    requires fits { FitsStudy (study_data study.now) }
+    requires sheet { IsSheet (study_data study.now) (sheet_data sheet.now) }
+    ensures { IfOk result (λ bytes. bytes.items ≡ sheet_text (study_data study.now) (sheet_data sheet.now)) }
+{
+    let mut out = Vec::new(alloc);
+    push_head(&mut out, sheet)?;
+    if let Some(choice) = &sheet.choice {
+        push_relay_lines(&mut out, study, choice)?;
+    }
+    out.extend_from_slice(b"end\n")?;
+    Ok(out)
+}
+
+/// Adds the lines that begin a sheet.
+fn push_head(out: &mut Vec<u8>, sheet: &Sheet) -> Result<(), NoMemory>
+    ensures { OnOk result (out.new.items ≡ out.old.items ++ head_text (sheet_data sheet.now)) }
+{
+    push_labelled(out, b"coord-sheet ", b"1")?;
+    push_labelled(out, b"ending ", word(sheet.ending))?;
+    push_labelled_amount(out, b"cost ", sheet.cost)?;
+    push_labelled_amount(out, b"bound ", sheet.bound)?;
+    Ok(())
+}
+
+/// Adds a line with a label and a word.
+#[tactic(auto, unfolding(crate::specs::SheetText::labelled))]
+fn push_labelled(out: &mut Vec<u8>, label: &[u8], word: &[u8]) -> Result<(), NoMemory>
+    ensures { OnOk result (out.new.items ≡ out.old.items ++ labelled label.now word.now) }
+{
+    out.extend_from_slice(label)?;
+    out.extend_from_slice(word)?;
+    out.extend_from_slice(b"\n")?;
+    Ok(())
+}
+
+/// Adds a line with a label and a number or `none`.
+#[tactic(auto, unfolding(crate::specs::SheetText::labelled))]
+fn push_labelled_amount(out: &mut Vec<u8>, label: &[u8], n: Option<u64>) -> Result<(), NoMemory>
+    ensures { OnOk result (out.new.items ≡ out.old.items ++ labelled label.now (amount n)) }
+{
+    out.extend_from_slice(label)?;
+    push_amount(out, n)?;
+    out.extend_from_slice(b"\n")?;
+    Ok(())
+}
+
+/// The word for an ending.
+fn word(ending: Ending) -> &'static [u8]
+    ensures { result.now ≡ ending_word ending }
+{
+    match ending {
+        Ending::Closed => b"closed",
+        Ending::NoSettings => b"no-settings",
+        Ending::BudgetSpent => b"budget-spent",
+        Ending::Hairline => b"hairline",
+    }
+}
+
+/// Adds a number in digits, or `none`. After `NoMemory` the text is as before.
+pub fn push_amount(out: &mut Vec<u8>, n: Option<u64>) -> Result<(), NoMemory>
+    ensures { OnOk result (out.new.items ≡ out.old.items ++ amount n) }
+{
+    match n {
+        Some(n) => push_number(out, n),
+        None => Ok(out.extend_from_slice(b"none")?),
+    }
+}
