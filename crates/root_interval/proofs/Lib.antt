@@ -1,0 +1,5 @@
+pub mod ProductLaws
+pub mod PowerBounds
+pub mod PowerLaws
+pub mod RootLaws
+pub mod RootEnds
