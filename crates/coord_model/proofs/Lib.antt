@@ -1,1 +1,4 @@
 pub mod Names
+pub mod Quotients
+pub mod CurveEnds
+pub mod NamedCurves

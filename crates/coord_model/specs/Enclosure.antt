@@ -19,21 +19,23 @@ pub record Root : Type 0 where
 abbrev pub constant_ns : CurveForm → ℕ
 constant_ns form = form.c4 * 100000
 
--- with a whole exponent: the time rounded down and rounded up
-abbrev pub whole_enclosure : CurveForm → Multiple → Enclosure
-whole_enclosure form m =
-    let above = m.num ^ form.e - m.den ^ form.e in
-    let scaled = form.k4 * 100000 * m.den ^ form.e in
-    record { lower = scaled / above + constant_ns form; upper = div_ceil scaled above + constant_ns form }
-
--- with a fiftieth as exponent: the time at the root's high end rounded down, and at its low end rounded up
-abbrev pub root_enclosure : CurveForm → Root → Enclosure
-root_enclosure form root =
-    let scaled = form.k4 * 100000 * 2 ^ 56 in
+-- the time of a curve where the power of the multiple, M^(e/h), lies between low/unit and high/unit: at the high
+-- end rounded down, at the low end rounded up
+abbrev pub ends_between : CurveForm → ℕ → ℕ → ℕ → Enclosure
+ends_between form unit low high =
+    let scaled = form.k4 * 100000 * unit in
     record {
-      lower = scaled / (root.high - 2 ^ 56) + constant_ns form;
-      upper = div_ceil scaled (root.low - 2 ^ 56) + constant_ns form;
+      lower = scaled / (high - unit) + constant_ns form;
+      upper = div_ceil scaled (low - unit) + constant_ns form;
     }
+
+-- with a whole exponent the power is known exactly
+abbrev pub whole_enclosure : CurveForm → Multiple → Enclosure
+whole_enclosure form m = ends_between form (m.den ^ form.e) (m.num ^ form.e) (m.num ^ form.e)
+
+-- with a fiftieth as exponent the power is the root, which lies between its ends
+abbrev pub root_enclosure : CurveForm → Root → Enclosure
+root_enclosure form root = ends_between form (2 ^ 56) root.low root.high
 
 -- the enclosure of a curve's time at a multiple, given the ends of the multiple's fiftieth root
 abbrev pub enclosure : CurveForm → Root → Multiple → Enclosure

@@ -44,7 +44,7 @@ pub fn form(curve: CurveName) -> CurveForm
 /// `enclose` takes the multiple of pickup `num/den`, from 1.05 to 30, and answers the two ends of the time at
 /// dial 1 in whole nanoseconds: the first at most the curve's time, the second at least it.
 pub trait Curve {
-    ghost use Rattle.std.specs.Prelude.{◌≡◌, ℕ, ◌+◌, ◌^◌, ◌≤◌};
+    ghost use Rattle.std.specs.Prelude.{◌≡◌, ℕ, ◌+◌, ◌^◌, ◌<◌, ◌≤◌};
     ghost use Rattle.coord_model.specs.Enclosure.{Root, enclosure, width_of, IsEnclosable, IsAtMost, IsNotAbove};
     ghost use Rattle.coord_model.specs.Time.{Multiple, IsUnder, IsOver};
     ghost use Rattle.coord_model.specs.declared.curve.CurveForm.{CurveForm};
@@ -64,7 +64,9 @@ pub trait Curve {
             let ends = enclosure (numbers self.now) (root m) m in result ≡ (ends.lower, ends.upper) }
         ensures under { IsUnder (numbers self.now) (record { num = num; den = den }) result.0 (10 ^ 9) }
         ensures over { IsOver (numbers self.now) (record { num = num; den = den }) result.1 (10 ^ 9) }
-        ensures narrow { result.1 ≤ result.0 + width_of (numbers self.now) };
+        ensures ordered { result.0 ≤ result.1 }
+        ensures narrow { result.1 ≤ result.0 + width_of (numbers self.now) }
+        ensures bounded { (0 < result.0) × (result.1 < 2 ^ 40) };
 
     /// Neither end rises as the multiple grows.
     ghost falls: { (c : Self) (m m' : Multiple) → IsEnclosable m → IsEnclosable m' → IsAtMost m m'

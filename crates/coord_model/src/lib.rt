@@ -6,6 +6,7 @@
 
 mod choice;
 mod curve;
+mod ends;
 mod kinds;
 mod memory;
 mod name;
@@ -13,6 +14,7 @@ mod study;
 
 pub use choice::{Choice, Ending};
 pub use curve::{Curve, CurveForm, CurveName, form};
+pub use ends::ends_between;
 pub use kinds::{Key, NetKind, TableName, What};
 pub use memory::NoMemory;
 pub use name::Name;
