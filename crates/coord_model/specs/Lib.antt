@@ -5,6 +5,7 @@ pub mod Enclosure
 pub mod Form
 pub mod Limits
 pub mod Name
+pub mod Order
 pub mod Rows
 pub mod StudyData
 pub mod Time

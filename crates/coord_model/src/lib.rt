@@ -10,6 +10,7 @@ mod ends;
 mod kinds;
 mod memory;
 mod name;
+mod order;
 mod study;
 
 pub use choice::{Choice, Ending};
@@ -18,4 +19,5 @@ pub use ends::ends_between;
 pub use kinds::{Key, NetKind, TableName, What};
 pub use memory::NoMemory;
 pub use name::Name;
+pub use order::under_is_at_most_over;
 pub use study::{Current, Currents, Exempt, Fault, Line, Pair, Relay, Row, Study, Term};
