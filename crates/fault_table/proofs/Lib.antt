@@ -1,0 +1,3 @@
+pub mod FieldReads
+pub mod RowReads
+pub mod TableReads
