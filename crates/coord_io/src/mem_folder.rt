@@ -71,10 +71,10 @@ impl Folder for MemFolder {
             raise(&mut self.read_faults);
             return Err(ReadFail::Failed);
         }
-        match bytes_of(&self.files, name) {
-            None => Err(ReadFail::Missing),
-            Some(bytes) => Ok(copy_from(bytes, place, buf)),
-        }
+        let Some(bytes) = bytes_of(&self.files, name) else {
+            return Err(ReadFail::Missing);
+        };
+        Ok(copy_from(bytes, place, buf))
     }
 
     fn start(&mut self, name: &str) -> Result<(), Failed> {

@@ -35,7 +35,7 @@ pub fn read_whole<F: Folder>(
     ensures reads_counted { F.read_faults folder.old ≤ F.read_faults folder.new }
     ensures writes_left { F.write_faults folder.new ≡ F.write_faults folder.old }
 {
-    let mut piece = vec![in alloc; 0; PIECE]?;
+    let mut piece = [0; PIECE];
     let mut read = Vec::new(alloc);
     loop {
         let room = limit - read.len() as u64;
