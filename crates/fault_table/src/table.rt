@@ -1,5 +1,5 @@
 //! The whole table.
-ghost use Rattle.std.specs.Prelude.{◌≡◌, ◌≢◌, ◌≤◌, [], ◌∷◌, ◌<◌, ℕ, suc, Ok, Err, length, IfOk, IfErr, IfSome, IsSome, MatchResult, All};
+ghost use Rattle.std.specs.Prelude.{◌≡◌, ◌≢◌, ◌≤◌, [], ◌∷◌, ◌<◌, ℕ, suc, Ok, Err, length, IfOk, IfErr, IfSome, IsErrOf, IsSome, MatchResult, All};
 ghost use Rattle.std.specs.List.{list_any};
 ghost use Rattle.csv.specs.Records.{fields_of};
 ghost use Rattle.coord_model.specs.Limits.{FitsStudy, FitsCurrent, FitsCurrents};
@@ -24,6 +24,7 @@ pub fn read_currents(alloc: Global, study: &Study, bytes: &[u8]) -> Result<Curre
         (λ currents. currents_of (study_data study.now) bytes.now ≡ Ok (entries_of currents))
         (λ fault. fault ≢ TableFault.NoMemory → currents_of (study_data study.now) bytes.now ≡ Err fault) }
     ensures fits { IfOk result (λ currents. FitsCurrents (study_data study.now) (entries_of currents)) }
+    ensures named { (fault : ℕ) → IsErrOf result (TableFault.NoPrimary fault) → fault < length (study_data study.now).faults }
 {
     let mut reader = ReaderBuilder::new()
         .has_headers(false)
