@@ -1,0 +1,3 @@
+pub mod EachAfter
+pub mod ItemLists
+pub mod KnownKeys

@@ -1,0 +1,20 @@
+-- The parts of a study that the limits of its lines, relays, faults and exempt pairs speak of.
+use Rattle.std.specs.Prelude.{List, []}
+use Rattle.coord_model.specs.StudyData.{StudyData}
+use Rattle.coord_model.specs.declared.name.Name.{Name}
+use Rattle.coord_model.specs.declared.study.Line.{Line}
+use Rattle.coord_model.specs.declared.study.Relay.{Relay}
+
+-- a study of these buses, lines and relays, and nothing else
+abbrev pub study_with : List Name → List Line → List Relay → StudyData
+study_with buses lines relays = record {
+  cti_ms = 0;
+  sense = 0;
+  cap = 0;
+  load_percent = 0;
+  buses = buses;
+  lines = lines;
+  relays = relays;
+  faults = [];
+  exempt = [];
+}

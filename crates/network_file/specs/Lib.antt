@@ -1,0 +1,10 @@
+pub mod Entries
+pub mod EntryLimits
+pub mod Fault
+pub mod Fits
+pub mod Network
+pub mod Numbered
+pub mod Tables
+pub mod Told
+pub mod Values
+pub mod Words
