@@ -1,7 +1,8 @@
 -- The parts of a study that the limits of its lines, relays, faults and exempt pairs speak of.
-use Rattle.std.specs.Prelude.{List, []}
+use Rattle.std.specs.Prelude.{ℕ, ◌<◌, List, []}
 use Rattle.coord_model.specs.StudyData.{StudyData}
 use Rattle.coord_model.specs.declared.name.Name.{Name}
+use Rattle.coord_model.specs.declared.study.Exempt.{Exempt}
 use Rattle.coord_model.specs.declared.study.Line.{Line}
 use Rattle.coord_model.specs.declared.study.Relay.{Relay}
 
@@ -18,3 +19,8 @@ study_with buses lines relays = record {
   faults = [];
   exempt = [];
 }
+
+-- both relays of the pair are below the count
+pub record IsPairBelow (count : ℕ) (pair : Exempt) : Type 0 where
+  pub backup : pair.backup < count
+  pub primary : pair.primary < count

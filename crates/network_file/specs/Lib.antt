@@ -4,6 +4,7 @@ pub mod Fault
 pub mod Fits
 pub mod Network
 pub mod Numbered
+pub mod Study
 pub mod Tables
 pub mod Told
 pub mod Values

@@ -8,9 +8,12 @@ mod entries;
 mod fault;
 mod fields;
 mod names;
+mod network;
 mod numbered;
+mod study;
 mod told;
 mod words;
 
 pub use fault::NetFault;
+pub use network::read_network;
 pub use words::word;

@@ -1,11 +1,11 @@
 //! The names of an entry as numbers, by the rules that tie the tables together.
 ghost use Rattle.std.specs.Prelude.{◌≡◌, ◌+◌, ◌-◌, ◌*◌, ◌^◌, ◌<◌, ◌≤◌, [], ◌∷◌, ◌++◌, length, slice_get, IfOk};
-ghost use Rattle.coord_model.specs.Limits.{FitsLine, FitsRelay};
+ghost use Rattle.coord_model.specs.Limits.{FitsLine, FitsRelay, FitsFault};
 ghost use Rattle.coord_model.specs.Rows.{ends_at};
-ghost use Rattle.network_file.specs.EntryLimits.{RelayKeeps};
+ghost use Rattle.network_file.specs.EntryLimits.{RelayKeeps, FaultKeeps};
 ghost use Rattle.network_file.specs.Fault.{Gives};
-ghost use Rattle.network_file.specs.Fits.{study_with};
-ghost use Rattle.network_file.specs.Network.{line_names};
+ghost use Rattle.network_file.specs.Fits.{study_with, IsPairBelow};
+ghost use Rattle.network_file.specs.Study.{line_names};
 ghost use Rattle.network_file.specs.Numbered.{line_in, relay_at, is_taken, relay_in, fault_on, exempt_in};
 
 use crate::entries::{ExemptEntry, FaultEntry, LineEntry, RelayEntry};
@@ -147,18 +147,20 @@ fn relay_at(entry: RelayEntry, line: u16, bus: u16) -> Relay
 /// A fault with its line's number.
 #[tactic(auto, unfolding(crate::specs::Numbered::fault_on))]
 pub(crate) fn fault_on(
-    line_names: &Names,
+    grid: &Grid,
     place: Place,
     names: &mut Names,
     entry: FaultEntry,
 ) -> Result<Fault, NetFault>
-    requires { length line_names.now.keys ≤ 64 }
-    ensures exact { Gives (λ fault. fault) result (fault_on line_names.now.keys place names.old.keys entry) }
+    requires lines { length grid.now.line_names.keys ≤ 64 }
+    requires named { grid.now.line_names.keys ≡ line_names grid.now.lines.items }
+    requires keeps { FaultKeeps entry }
+    ensures exact { Gives (λ fault. fault) result (fault_on grid.now.line_names.keys place names.old.keys entry) }
     ensures added { IfOk result (λ fault. names.new.keys ≡ names.old.keys ++ fault.name ∷ []) }
-    ensures fits { IfOk result (λ fault. (fault.line < length line_names.now.keys) × (fault.weight ≡ entry.weight)) }
+    ensures fits { IfOk result (FitsFault (study_with grid.now.buses.keys grid.now.lines.items [])) }
 {
     add_new(names, place, entry.name)?;
-    let Some(line) = number_in(line_names, entry.line) else {
+    let Some(line) = number_in(&grid.line_names, entry.line) else {
         return Err(place.fault(NetKind::UnknownName, Key::Line));
     };
     Ok(Fault {
@@ -177,7 +179,7 @@ pub(crate) fn exempt_in(
 ) -> Result<Exempt, NetFault>
     requires { length relay_names.now.keys ≤ 96 }
     ensures exact { result ≡ exempt_in relay_names.now.keys place entry }
-    ensures within { IfOk result (λ exempt. (exempt.backup < length relay_names.now.keys) × (exempt.primary < length relay_names.now.keys)) }
+    ensures within { IfOk result (IsPairBelow (length relay_names.now.keys)) }
 {
     let Some(backup) = number_in(relay_names, entry.backup) else {
         return Err(place.fault(NetKind::UnknownName, Key::Backup));
