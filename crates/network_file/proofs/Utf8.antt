@@ -11,6 +11,6 @@ is_text bytes text = is_utf8-from_IsUtf8 bytes text
 pub is_no_text : (bytes : List ℕ) → ¬ (IsUtf8 bytes) → is_utf8 bytes ≡ false
 is_no_text bytes none =
     elim (cases_Bool (is_utf8 bytes)) [
-      | inl yes ↦ absurd (none (IsUtf8-from_is_utf8 bytes yes))
-      | inr no ↦ no
+      | inl passes ↦ absurd (none (IsUtf8-from_is_utf8 bytes passes))
+      | inr fails ↦ fails
     ]
