@@ -15,9 +15,18 @@ module _ (study : StudyData) where
 
   relay_fits : (relay : Relay) → FitsRelay (study_with study.buses study.lines []) relay → FitsRelay study relay
   relay_fits relay h = record {
-    on_line = h.on_line; at_end = h.at_end; ct_primary = h.ct_primary; ct_secondary = h.ct_secondary;
-    plug_first = h.plug_first; plug_step = h.plug_step; plug_count = h.plug_count; last_plug = h.last_plug;
-    dial_first = h.dial_first; dial_step = h.dial_step; dial_count = h.dial_count; last_dial = h.last_dial;
+    on_line = h.on_line;
+    at_end = h.at_end;
+    ct_primary = h.ct_primary;
+    ct_secondary = h.ct_secondary;
+    plug_first = h.plug_first;
+    plug_step = h.plug_step;
+    plug_count = h.plug_count;
+    last_plug = h.last_plug;
+    dial_first = h.dial_first;
+    dial_step = h.dial_step;
+    dial_count = h.dial_count;
+    last_dial = h.last_dial;
     load_amps = h.load_amps;
   }
 

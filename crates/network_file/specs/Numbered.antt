@@ -20,21 +20,7 @@ use Rattle.network_file.specs.declared.fault.NetFault.{NetFault}
 use Rattle.network_file.specs.declared.fault.Place.{Place}
 use Rattle.network_file.specs.Fault.{◌>>=◌, demand, fault_at}
 use Rattle.network_file.specs.Values.{some_or}
-
--- the buses, by their first mention in the lines, from before to
-abbrev pub with_ends : List Name → LineEntry → List Name
-with_ends buses line = insert_key bytes_eq (insert_key bytes_eq buses line.from) line.to
-
-unfoldable pub buses_of : List LineEntry → List Name
-buses_of lines = fold with_ends [] lines
-
--- the number of a name among names, from 0
-abbrev pub number_in : List Name → Name → Option ℕ
-number_in names name = position (bytes_eq name) names
-
--- a name that none before has
-unfoldable pub new_name : Place → List Name → Name → Result (Unit {0}) NetFault
-new_name place names name = demand (not (list_any (bytes_eq name) names)) (fault_at place DoubleName key.Name)
+use Rattle.network_file.specs.Names.{number_in, new_name}
 
 -- a line with its buses' numbers. The buses are those of the lines, so each has a number.
 unfoldable pub line_in : List Name → Place → List Name → LineEntry → Result Line NetFault

@@ -14,9 +14,11 @@ use Rattle.network_file.specs.declared.entries.LineEntry.{LineEntry}
 use Rattle.network_file.specs.declared.entries.RelayEntry.{RelayEntry}
 use Rattle.network_file.specs.declared.fault.NetFault.{NetFault}
 use Rattle.network_file.specs.Fault.{◌>>=◌, each_after}
-use Rattle.network_file.specs.Numbered.{buses_of, line_in, relay_in, fault_on, exempt_in}
+use Rattle.network_file.specs.Names.{buses_of}
+use Rattle.network_file.specs.Numbered.{line_in, relay_in, fault_on, exempt_in}
 use Rattle.network_file.specs.Tables.{within}
-use Rattle.network_file.specs.Told.{ToldData, place_after}
+use Rattle.network_file.specs.Told.{ToldData}
+use Rattle.network_file.specs.Elements.{place_after}
 
 -- the names of lines, of relays and of faults
 abbrev pub line_names : List Line → List Name
@@ -52,6 +54,13 @@ study_of told = do
   faults ← each_after (next_fault lines) [] told.faults
   exempt ← each_after (next_exempt (relay_names relays)) [] told.exempt
   Ok (record {
-    cti_ms = told.study.cti_ms; sense = told.study.sense; cap = told.study.cap; load_percent = told.study.load_percent;
-    buses = buses_of told.lines; lines = lines; relays = relays; faults = faults; exempt = exempt;
+    cti_ms = told.study.cti_ms;
+    sense = told.study.sense;
+    cap = told.study.cap;
+    load_percent = told.study.load_percent;
+    buses = buses_of told.lines;
+    lines = lines;
+    relays = relays;
+    faults = faults;
+    exempt = exempt;
   })

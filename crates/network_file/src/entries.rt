@@ -1,6 +1,7 @@
 //! The tables of the network file as they are told, with names where a study has numbers.
 ghost use Rattle.std.specs.Prelude.{◌≡◌, ◌⊎◌, ℕ, Result, IfOk};
-ghost use Rattle.network_file.specs.Entries.{study_entry, line_entry, secondary_at, relay_entry, fault_entry, exempt_entry};
+ghost use Rattle.network_file.specs.Entries.{study_entry, line_entry, fault_entry, exempt_entry};
+ghost use Rattle.network_file.specs.RelayEntries.{secondary_at, relay_entry};
 ghost use Rattle.network_file.specs.EntryLimits.{StudyKeeps, LineKeeps, RelayKeeps, FaultKeeps, ExemptKeeps};
 ghost use Rattle.network_file.specs.declared.fault.NetFault.{NetFault};
 ghost use Rattle.network_file.specs.declared.fault.Place.{Place};
@@ -112,7 +113,7 @@ impl Entry for RelayEntry {
 
     ghost Keeps = { RelayKeeps };
 
-    #[tactic(auto, unfolding(crate::specs::Entries::relay_entry))]
+    #[tactic(auto, unfolding(crate::specs::RelayEntries::relay_entry))]
     fn read(_format: u32, fields: Fields) -> Result<RelayEntry, NetFault> {
         fields.only(&[
             Key::Name,
@@ -148,7 +149,7 @@ impl Entry for RelayEntry {
 }
 
 /// The rated secondary current of a current transformer, 1 or 5 amperes.
-#[tactic(auto, unfolding(crate::specs::Entries::secondary_at))]
+#[tactic(auto, unfolding(crate::specs::RelayEntries::secondary_at))]
 fn secondary(fields: Fields) -> Result<u32, NetFault>
     ensures exact { result ≡ secondary_at fields.entry.place (table_view fields.entry.table.now) }
     ensures rated { IfOk result (λ amps. (amps ≡ 1) ⊎ (amps ≡ 5)) }

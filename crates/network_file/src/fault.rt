@@ -11,7 +11,7 @@ use thiserror::Error;
 ///
 /// `index` counts the elements of a table from 1, and is 0 for the top and the study. An unknown key and an
 /// element that is no table have no `key`.
-#[derive(Debug, Drop, Error)]
+#[derive(Clone, Copy, PartialEq, Eq, Debug, Error)]
 pub enum NetFault {
     #[error("the bytes are no text")]
     NotText,

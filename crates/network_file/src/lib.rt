@@ -17,3 +17,6 @@ mod words;
 pub use fault::NetFault;
 pub use network::read_network;
 pub use words::word;
+
+#[cfg(test)]
+mod tests;

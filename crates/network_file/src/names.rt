@@ -2,7 +2,7 @@
 ghost use Rattle.std.specs.Prelude.{◌≡◌, ◌+◌, ◌^◌, ◌<◌, ◌≤◌, [], ◌∷◌, ◌++◌, Some, length, slice_get, IfSome, OnOk, IfOk};
 ghost use Rattle.indexmap.specs.IndexSet.{index_set_len};
 ghost use Rattle.network_file.specs.Fault.{Gives};
-ghost use Rattle.network_file.specs.Numbered.{new_name, number_in};
+ghost use Rattle.network_file.specs.Names.{new_name, number_in};
 
 use crate::fault::{NetFault, Place};
 use coord_model::{Key, Name, NetKind};
@@ -12,7 +12,7 @@ use indexmap::IndexSet;
 pub(crate) type Names = IndexSet<Name>;
 
 /// Adds a name that none before has.
-#[tactic(auto, unfolding(crate::specs::Numbered::new_name))]
+#[tactic(auto, unfolding(crate::specs::Names::new_name))]
 pub(crate) fn add_new(names: &mut Names, place: Place, name: Name) -> Result<(), NetFault>
     ensures exact { Gives (λ done. done) result (new_name place names.old.keys name) }
     ensures added { OnOk result (names.new.keys ≡ names.old.keys ++ name ∷ []) }

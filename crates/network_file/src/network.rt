@@ -32,11 +32,7 @@ pub fn read_network(alloc: Global, bytes: &[u8]) -> Result<Study, NetFault>
 }
 
 /// The bytes as text.
-#[tactic(
-    auto,
-    using(crate::proofs::Utf8::is_text, crate::proofs::Utf8::is_no_text),
-    unfolding(crate::specs::Network::text_of)
-)]
+#[tactic(auto, using(crate::proofs::Utf8::is_text, crate::proofs::Utf8::is_no_text), unfolding(crate::specs::Network::text_of))]
 fn text_of(bytes: &[u8]) -> Result<&str, NetFault>
     ensures { Reads (λ text. text.now) result (text_of bytes.now) }
 {

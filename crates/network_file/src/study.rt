@@ -5,7 +5,7 @@ ghost use Rattle.coord_model.specs.StudyData.{study_data};
 ghost use Rattle.network_file.specs.EntryLimits.{RelayKeeps, FaultKeeps};
 ghost use Rattle.network_file.specs.Fault.{Gives, each_after};
 ghost use Rattle.network_file.specs.Fits.{study_with, IsPairBelow};
-ghost use Rattle.network_file.specs.Numbered.{buses_of};
+ghost use Rattle.network_file.specs.Names.{buses_of};
 ghost use Rattle.network_file.specs.Study.{line_names, relay_names, next_line, next_relay, next_fault, next_exempt, study_of};
 ghost use Rattle.network_file.specs.Told.{ToldKeeps, told_data};
 
@@ -50,7 +50,7 @@ pub(crate) fn study_of(alloc: Global, told: &Told) -> Result<Study, NetFault>
 }
 
 /// The buses, by their first mention in the lines, `from` before `to`.
-#[tactic(auto, unfolding(crate::specs::Numbered::buses_of))]
+#[tactic(auto, unfolding(crate::specs::Names::buses_of))]
 fn buses_of(alloc: Global, lines: &[LineEntry]) -> Result<Names, AllocError>
     ensures exact { IfOk result (λ buses. buses.keys ≡ buses_of lines.now) }
     ensures few { IfOk result (λ buses. length buses.keys ≤ 2 * length lines.now) }

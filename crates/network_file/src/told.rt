@@ -4,7 +4,8 @@ ghost use Rattle.coord_model.specs.Limits.{IsBetween};
 ghost use Rattle.network_file.specs.EntryLimits.{StudyKeeps, RelayKeeps, FaultKeeps};
 ghost use Rattle.network_file.specs.Fault.{Gives, Reads};
 ghost use Rattle.network_file.specs.Tables.{within, elements_at, some_elements_at};
-ghost use Rattle.network_file.specs.Told.{ToldKeeps, top, place_after, told_data, told_in, entry_at, entries_of, study_at, lines_at, relays_at, faults_at, exempt_at};
+ghost use Rattle.network_file.specs.Elements.{top, place_after, entry_at, entries_of, lines_at, relays_at, faults_at, exempt_at};
+ghost use Rattle.network_file.specs.Told.{ToldKeeps, told_data, told_in, study_at};
 ghost use Rattle.toml.specs.View.{view, table_view};
 
 use crate::entries::{Entry, ExemptEntry, FaultEntry, LineEntry, RelayEntry, StudyEntry};
@@ -84,7 +85,7 @@ fn study_at(format: u32, document: &Table) -> Result<StudyEntry, NetFault>
     )
 }
 
-#[tactic(auto, unfolding(crate::specs::Told::lines_at))]
+#[tactic(auto, unfolding(crate::specs::Elements::lines_at))]
 fn lines_at(alloc: Global, format: u32, document: &Table) -> Result<Vec<LineEntry>, NetFault>
     ensures exact { Gives (λ v. v.items) result (lines_at format (table_view document.now)) }
     ensures count { IfOk result (λ v. IsBetween 1 (vec_len v) 64) }
@@ -94,7 +95,7 @@ fn lines_at(alloc: Global, format: u32, document: &Table) -> Result<Vec<LineEntr
     entries_of(alloc, format, TableName::Line, elements)
 }
 
-#[tactic(auto, unfolding(crate::specs::Told::relays_at))]
+#[tactic(auto, unfolding(crate::specs::Elements::relays_at))]
 fn relays_at(alloc: Global, format: u32, document: &Table) -> Result<Vec<RelayEntry>, NetFault>
     ensures exact { Gives (λ v. v.items) result (relays_at format (table_view document.now)) }
     ensures count { IfOk result (λ v. IsBetween 1 (vec_len v) 96) }
@@ -105,7 +106,7 @@ fn relays_at(alloc: Global, format: u32, document: &Table) -> Result<Vec<RelayEn
     entries_of(alloc, format, TableName::Relay, elements)
 }
 
-#[tactic(auto, unfolding(crate::specs::Told::faults_at))]
+#[tactic(auto, unfolding(crate::specs::Elements::faults_at))]
 fn faults_at(alloc: Global, format: u32, document: &Table) -> Result<Vec<FaultEntry>, NetFault>
     ensures exact { Gives (λ v. v.items) result (faults_at format (table_view document.now)) }
     ensures count { IfOk result (λ v. vec_len v ≤ 256) }
@@ -116,7 +117,7 @@ fn faults_at(alloc: Global, format: u32, document: &Table) -> Result<Vec<FaultEn
     entries_of(alloc, format, TableName::Fault, elements)
 }
 
-#[tactic(auto, unfolding(crate::specs::Told::exempt_at))]
+#[tactic(auto, unfolding(crate::specs::Elements::exempt_at))]
 fn exempt_at(alloc: Global, format: u32, document: &Table) -> Result<Vec<ExemptEntry>, NetFault>
     ensures exact { Gives (λ v. v.items) result (exempt_at format (table_view document.now)) }
     ensures count { IfOk result (λ v. vec_len v ≤ 1024) }
@@ -197,7 +198,7 @@ pub(crate) fn place_after<T>(table: TableName, before: &[T]) -> Place
 }
 
 /// An element as an entry: it has to be a table.
-#[tactic(auto, unfolding(crate::specs::Told::entry_at))]
+#[tactic(auto, unfolding(crate::specs::Elements::entry_at))]
 fn entry_at<E: Entry>(format: u32, place: Place, element: &Value) -> Result<E, NetFault>
     ensures exact { result ≡ entry_at (E.entry_of format) place (view element.now) }
     ensures keeps { IfOk result E.Keeps }

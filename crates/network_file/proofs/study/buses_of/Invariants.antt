@@ -1,5 +1,5 @@
 use Rattle.std.proofs.Common.{◌≡◌, [], take, fold, length, ◌*◌, ◌≤◌}
-use Rattle.network_file.specs.Numbered.{with_ends}
+use Rattle.network_file.specs.Names.{with_ends}
 use Rattle.network_file.proofs.study.buses_of.Given as goal
 
 abbrev pub invariant-loop-line : goal.invariant-loop-line

@@ -6,7 +6,7 @@ use Rattle.coord_model.specs.declared.kinds.TableName.TheVariants as tables
 use Rattle.network_file.specs.Fault.{Fails}
 use Rattle.network_file.specs.Fits.{IsPairBelow}
 use Rattle.network_file.specs.Study.{next_exempt}
-use Rattle.network_file.specs.Told.{place_after}
+use Rattle.network_file.specs.Elements.{place_after}
 use Rattle.network_file.proofs.EachAfter.{next_split, own_fault, goes_on, stops, ends}
 use Rattle.network_file.proofs.study.exempt_of.Goals as goal
 
@@ -17,7 +17,7 @@ returns-in_err-exempt_in-clause-exact c =
     let fault = c.in_err-exempt_in.field-0.0 in
     let here : Fails fault (next_exempt c.args.relay_names.now.keys c.loop-entry.exempt.items c.entry-item.result) = own_fault _ _ (rw (← place) (sym c.in_err-exempt_in.ensures.exact)) in
     rw (p.1, p.2) (stops (next_exempt c.args.relay_names.now.keys) c.loop-entry.exempt.items c.entry-item.result _ _ _ fault
-        (next_split c.args.entries.now c.loop-entry.entry-index c.entry-item.result c.loop-entry-test.true c.entry-item.is) here c.loop-entry.invariant.so_far)
+    (next_split c.args.entries.now c.loop-entry.entry-index c.entry-item.result c.loop-entry-test.true c.entry-item.is) here c.loop-entry.invariant.so_far)
 
 pub loop-entry-preserved : goal.loop-entry-preserved
 loop-entry-preserved c =

@@ -8,7 +8,7 @@ use Rattle.network_file.specs.Fault.{Fails}
 use Rattle.coord_model.specs.Limits.{FitsLine}
 use Rattle.network_file.specs.Fits.{study_with}
 use Rattle.network_file.specs.Study.{next_line}
-use Rattle.network_file.specs.Told.{place_after}
+use Rattle.network_file.specs.Elements.{place_after}
 use Rattle.network_file.proofs.EachAfter.{next_split, goes_on, stops, ends}
 use Rattle.network_file.proofs.study.lines_of.Goals as goal
 
@@ -19,7 +19,7 @@ returns-in_err-line_in-clause-exact c =
     let fault = c.in_err-line_in.field-0.0 in
     let here : Fails fault (next_line c.args.buses.now.keys c.loop-entry.lines.items c.entry-item.result) = rw (← place, ← c.loop-entry.invariant.named) c.in_err-line_in.ensures.exact in
     rw (p.1, p.2) (stops (next_line c.args.buses.now.keys) c.loop-entry.lines.items c.entry-item.result _ _ _ fault
-        (next_split c.args.entries.now c.loop-entry.entry-index c.entry-item.result c.loop-entry-test.true c.entry-item.is) here c.loop-entry.invariant.so_far)
+    (next_split c.args.entries.now c.loop-entry.entry-index c.entry-item.result c.loop-entry-test.true c.entry-item.is) here c.loop-entry.invariant.so_far)
 
 pub loop-entry-preserved : goal.loop-entry-preserved
 loop-entry-preserved c =

@@ -8,7 +8,7 @@ use Rattle.network_file.specs.Fault.{Fails}
 use Rattle.coord_model.specs.Limits.{FitsRelay}
 use Rattle.network_file.specs.Fits.{study_with}
 use Rattle.network_file.specs.Study.{next_relay}
-use Rattle.network_file.specs.Told.{place_after}
+use Rattle.network_file.specs.Elements.{place_after}
 use Rattle.network_file.proofs.EachAfter.{next_split, goes_on, stops, ends}
 use Rattle.network_file.proofs.study.relays_of.Goals as goal
 
@@ -19,7 +19,7 @@ returns-in_err-relay-clause-exact c =
     let fault = c.in_err-relay.field-0.0 in
     let here : Fails fault (next_relay c.args.grid.now.buses.keys c.args.grid.now.lines.items c.loop-entry.relays.items c.entry-item.result) = rw (← place, ← c.loop-entry.invariant.named, ← c.requires.named, ← c.deref-in-loop-entry.ensures.value) c.in_err-relay.ensures.exact in
     rw (p.1, p.2) (stops (next_relay c.args.grid.now.buses.keys c.args.grid.now.lines.items) c.loop-entry.relays.items c.entry-item.result _ _ _ fault
-        (next_split c.args.entries.now c.loop-entry.entry-index c.entry-item.result c.loop-entry-test.true c.entry-item.is) here c.loop-entry.invariant.so_far)
+    (next_split c.args.entries.now c.loop-entry.entry-index c.entry-item.result c.loop-entry-test.true c.entry-item.is) here c.loop-entry.invariant.so_far)
 
 pub loop-entry-preserved : goal.loop-entry-preserved
 loop-entry-preserved c =

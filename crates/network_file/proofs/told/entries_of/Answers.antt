@@ -4,7 +4,7 @@ use Rattle.std.proofs.lemmas.List.Elements.{All-push}
 use Rattle.std.proofs.lemmas.Result.{err_from_is_err_and}
 use Rattle.network_file.specs.declared.fault.Place.{Place}
 use Rattle.network_file.specs.Fault.{Fails}
-use Rattle.network_file.specs.Told.{entry_at, place_after}
+use Rattle.network_file.specs.Elements.{entry_at, place_after}
 use Rattle.network_file.proofs.EachAfter.{seen_split, own_fault, goes_on, stops, ends}
 use Rattle.toml.specs.View.{view}
 use Rattle.network_file.proofs.told.entries_of.Goals as goal

@@ -1,6 +1,6 @@
 use Rattle.std.proofs.Common.{◌≡◌, map, drop, vec_len, All}
 use Rattle.network_file.specs.Fault.{each_after}
-use Rattle.network_file.specs.Told.{entry_at, entries_of, place_after}
+use Rattle.network_file.specs.Elements.{entry_at, entries_of, place_after}
 use Rattle.toml.specs.View.{view}
 use Rattle.network_file.proofs.told.entries_of.Given as goal
 
