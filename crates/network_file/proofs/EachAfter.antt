@@ -3,7 +3,7 @@ use Rattle.std.proofs.Common.{◌≡◌, ℕ, ◌+◌, ◌<◌, List, [], ◌∷
 use Rattle.std.proofs.lemmas.List.{drop_more}
 use Rattle.network_file.specs.declared.fault.NetFault.{NetFault}
 use Rattle.network_file.specs.declared.fault.NetFault.TheVariants.{NotText, NotToml, At, TooMany, NoMemory}
-use Rattle.network_file.specs.Fault.{◌>>=◌, Fails, each_after}
+use Rattle.network_file.specs.Fault.{Fails, each_after}
 
 -- the next element, seen by v, and those after it
 pub seen_split : {A B : Type 0} (v : A → B) (xs : List A) (i : ℕ) (x : A) → i < length xs → x ≡ get_or xs i x

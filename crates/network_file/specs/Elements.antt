@@ -1,7 +1,6 @@
 -- Arrays of tables, each taken whole (ours).
-use Rattle.std.specs.Prelude.{ℕ, ◌+◌, ◌≤◌, All, List, [], ◌∷◌, length, Result, Ok, Err}
-use Rattle.coord_model.specs.declared.kinds.Key.{Key}
-use Rattle.coord_model.specs.declared.kinds.Key.TheVariants.{Format, Study, Line, Relay, Fault, Exempt}
+use Rattle.std.specs.Prelude.{ℕ, ◌+◌, List, [], length, Result}
+use Rattle.coord_model.specs.declared.kinds.Key.TheVariants.{Line, Relay, Fault, Exempt}
 use Rattle.coord_model.specs.declared.kinds.NetKind.TheVariants.{WrongKind}
 use Rattle.coord_model.specs.declared.kinds.TableName.{TableName}
 use Rattle.coord_model.specs.declared.kinds.TableName.TheVariants as tables
@@ -10,18 +9,12 @@ use Rattle.network_file.specs.declared.entries.ExemptEntry.{ExemptEntry}
 use Rattle.network_file.specs.declared.entries.FaultEntry.{FaultEntry}
 use Rattle.network_file.specs.declared.entries.LineEntry.{LineEntry}
 use Rattle.network_file.specs.declared.entries.RelayEntry.{RelayEntry}
-use Rattle.network_file.specs.declared.entries.StudyEntry.{StudyEntry}
 use Rattle.network_file.specs.declared.fault.NetFault.{NetFault}
 use Rattle.network_file.specs.declared.fault.Place.{Place}
-use Rattle.network_file.specs.declared.told.Told.{Told}
-use Rattle.coord_model.specs.Limits.{IsBetween}
-use Rattle.network_file.specs.EntryLimits.{StudyKeeps, RelayKeeps, FaultKeeps}
-use Rattle.network_file.specs.Entries.{study_entry, line_entry, fault_entry, exempt_entry}
-use Rattle.network_file.specs.Fault.{◌>>=◌, fault_at, fault_in, each_after}
-use Rattle.network_file.specs.Tables.{only, within, elements_at, some_elements_at, table_or}
-use Rattle.network_file.specs.Values.{given, number_at}
-use Rattle.network_file.specs.Words.{word_of}
-use Rattle.toml.specs.Data.{Data, Members, get_member}
+use Rattle.network_file.specs.Entries.{line_entry, fault_entry, exempt_entry}
+use Rattle.network_file.specs.Fault.{◌>>=◌, fault_in, each_after}
+use Rattle.network_file.specs.Tables.{within, elements_at, some_elements_at, table_or}
+use Rattle.toml.specs.Data.{Data, Members}
 use Rattle.network_file.specs.RelayEntries.{relay_entry}
 
 -- the top, the study, and the element of an array after those before it

@@ -1,18 +1,16 @@
 -- The study, the lines, the faults and the exempt pairs as they are told, with names where a study has numbers (ours).
-use Rattle.std.specs.Prelude.{ℕ, ◌||◌, ◌==◌, List, [], ◌∷◌, Result, Ok, Err, if◌then◌else◌}
+use Rattle.std.specs.Prelude.{ℕ, List, [], ◌∷◌, Result, Ok}
 use Rattle.coord_model.specs.declared.kinds.Key.{Key}
-use Rattle.coord_model.specs.declared.kinds.Key.TheVariants.{CtiMs, Sense, Cap, LoadPercent, Name, From, To, Line, Bus, Curve, CtPrimary, CtSecondary, PlugFirst, PlugStep, PlugCount, DialFirst, DialStep, DialCount, LoadAmps, Weight, Backup, Primary}
-use Rattle.coord_model.specs.declared.kinds.NetKind.TheVariants.{OutOfRange}
+use Rattle.coord_model.specs.declared.kinds.Key.TheVariants.{CtiMs, Sense, Cap, LoadPercent, Name, From, To, Line, Weight, Backup, Primary}
 use Rattle.network_file.specs.declared.entries.ExemptEntry.{ExemptEntry}
 use Rattle.network_file.specs.declared.entries.FaultEntry.{FaultEntry}
 use Rattle.network_file.specs.declared.entries.LineEntry.{LineEntry}
-use Rattle.network_file.specs.declared.entries.RelayEntry.{RelayEntry}
 use Rattle.network_file.specs.declared.entries.StudyEntry.{StudyEntry}
 use Rattle.network_file.specs.declared.fault.NetFault.{NetFault}
 use Rattle.network_file.specs.declared.fault.Place.{Place}
-use Rattle.network_file.specs.Fault.{◌>>=◌, demand, fault_at}
+use Rattle.network_file.specs.Fault.{◌>>=◌}
 use Rattle.network_file.specs.Tables.{only}
-use Rattle.network_file.specs.Values.{name_at, number_at, number_or, curve_at}
+use Rattle.network_file.specs.Values.{name_at, number_at, number_or}
 use Rattle.toml.specs.Data.{Members}
 
 -- the keys of the study, of a line, of a fault and of an exempt pair

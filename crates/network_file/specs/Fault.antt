@@ -1,9 +1,9 @@
 -- Faults and the places where they stand (ours). A reading is a value or the first fault.
-use Rattle.std.specs.Prelude.{◌≡◌, ℕ, ◌+◌, Bool, Option, Some, None, Result, Ok, Err, List, [], ◌∷◌, ◌++◌, length, if◌then◌else◌}
+use Rattle.std.specs.Prelude.{◌≡◌, Bool, Some, None, Result, Ok, Err, List, [], ◌∷◌, ◌++◌, if◌then◌else◌}
 use Rattle.coord_model.specs.declared.kinds.Key.{Key}
 use Rattle.coord_model.specs.declared.kinds.NetKind.{NetKind}
 use Rattle.network_file.specs.declared.fault.NetFault.{NetFault}
-use Rattle.network_file.specs.declared.fault.NetFault.TheVariants.{NotText, NotToml, At, TooMany, NoMemory}
+use Rattle.network_file.specs.declared.fault.NetFault.TheVariants.{At, NoMemory}
 use Rattle.network_file.specs.declared.fault.Place.{Place}
 
 -- go on with the value, or stop at the fault

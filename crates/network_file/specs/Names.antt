@@ -1,25 +1,15 @@
 -- Names and their numbers (ours).
-use Rattle.std.specs.Prelude.{ℕ, ◌-◌, ◌+◌, ◌*◌, Bool, not, ◌&&◌, ◌==◌, nat_le, List, [], ◌∷◌, map, fold, position, slice_get, Option, Result, Ok, Err}
+use Rattle.std.specs.Prelude.{ℕ, not, List, [], fold, position, Option, Result}
 use Rattle.std.specs.List.{list_any}
 use Rattle.std.specs.Str.{bytes_eq}
 use Rattle.indexmap.specs.IndexSet.{insert_key}
-use Rattle.coord_model.specs.Rows.{ends_at}
-use Rattle.coord_model.specs.Time.{plug_at, dial_at}
 use Rattle.coord_model.specs.declared.kinds.Key.TheVariants as key
-use Rattle.coord_model.specs.declared.kinds.NetKind.TheVariants.{DoubleName, LoopLine, UnknownName, NotAtLine, TwoRelaysAtEnd, OutOfRange}
+use Rattle.coord_model.specs.declared.kinds.NetKind.TheVariants.{DoubleName}
 use Rattle.coord_model.specs.declared.name.Name.{Name}
-use Rattle.coord_model.specs.declared.study.Exempt.{Exempt}
-use Rattle.coord_model.specs.declared.study.Fault.{Fault}
-use Rattle.coord_model.specs.declared.study.Line.{Line}
-use Rattle.coord_model.specs.declared.study.Relay.{Relay}
-use Rattle.network_file.specs.declared.entries.ExemptEntry.{ExemptEntry}
-use Rattle.network_file.specs.declared.entries.FaultEntry.{FaultEntry}
 use Rattle.network_file.specs.declared.entries.LineEntry.{LineEntry}
-use Rattle.network_file.specs.declared.entries.RelayEntry.{RelayEntry}
 use Rattle.network_file.specs.declared.fault.NetFault.{NetFault}
 use Rattle.network_file.specs.declared.fault.Place.{Place}
-use Rattle.network_file.specs.Fault.{◌>>=◌, demand, fault_at}
-use Rattle.network_file.specs.Values.{some_or}
+use Rattle.network_file.specs.Fault.{demand, fault_at}
 
 -- the buses, by their first mention in the lines, from before to
 abbrev pub with_ends : List Name → LineEntry → List Name

@@ -1,12 +1,10 @@
 -- A network file's names as numbers, by the rules that tie its tables together (ours).
-use Rattle.std.specs.Prelude.{ℕ, ◌-◌, ◌+◌, ◌*◌, Bool, not, ◌&&◌, ◌==◌, nat_le, List, [], ◌∷◌, map, fold, position, slice_get, Option, Result, Ok, Err}
+use Rattle.std.specs.Prelude.{ℕ, ◌-◌, ◌+◌, ◌*◌, Bool, not, ◌&&◌, ◌==◌, nat_le, List, slice_get, Result, Ok}
 use Rattle.std.specs.List.{list_any}
 use Rattle.std.specs.Str.{bytes_eq}
-use Rattle.indexmap.specs.IndexSet.{insert_key}
 use Rattle.coord_model.specs.Rows.{ends_at}
-use Rattle.coord_model.specs.Time.{plug_at, dial_at}
 use Rattle.coord_model.specs.declared.kinds.Key.TheVariants as key
-use Rattle.coord_model.specs.declared.kinds.NetKind.TheVariants.{DoubleName, LoopLine, UnknownName, NotAtLine, TwoRelaysAtEnd, OutOfRange}
+use Rattle.coord_model.specs.declared.kinds.NetKind.TheVariants.{LoopLine, UnknownName, NotAtLine, TwoRelaysAtEnd, OutOfRange}
 use Rattle.coord_model.specs.declared.name.Name.{Name}
 use Rattle.coord_model.specs.declared.study.Exempt.{Exempt}
 use Rattle.coord_model.specs.declared.study.Fault.{Fault}

@@ -1,16 +1,12 @@
 -- The relays as they are told, with names where a study has numbers (ours).
 use Rattle.std.specs.Prelude.{ℕ, ◌||◌, ◌==◌, List, [], ◌∷◌, Result, Ok, Err, if◌then◌else◌}
 use Rattle.coord_model.specs.declared.kinds.Key.{Key}
-use Rattle.coord_model.specs.declared.kinds.Key.TheVariants.{CtiMs, Sense, Cap, LoadPercent, Name, From, To, Line, Bus, Curve, CtPrimary, CtSecondary, PlugFirst, PlugStep, PlugCount, DialFirst, DialStep, DialCount, LoadAmps, Weight, Backup, Primary}
+use Rattle.coord_model.specs.declared.kinds.Key.TheVariants.{Name, Line, Bus, Curve, CtPrimary, CtSecondary, PlugFirst, PlugStep, PlugCount, DialFirst, DialStep, DialCount, LoadAmps}
 use Rattle.coord_model.specs.declared.kinds.NetKind.TheVariants.{OutOfRange}
-use Rattle.network_file.specs.declared.entries.ExemptEntry.{ExemptEntry}
-use Rattle.network_file.specs.declared.entries.FaultEntry.{FaultEntry}
-use Rattle.network_file.specs.declared.entries.LineEntry.{LineEntry}
 use Rattle.network_file.specs.declared.entries.RelayEntry.{RelayEntry}
-use Rattle.network_file.specs.declared.entries.StudyEntry.{StudyEntry}
 use Rattle.network_file.specs.declared.fault.NetFault.{NetFault}
 use Rattle.network_file.specs.declared.fault.Place.{Place}
-use Rattle.network_file.specs.Fault.{◌>>=◌, demand, fault_at}
+use Rattle.network_file.specs.Fault.{◌>>=◌, fault_at}
 use Rattle.network_file.specs.Tables.{only}
 use Rattle.network_file.specs.Values.{name_at, number_at, number_or, curve_at}
 use Rattle.toml.specs.Data.{Members}

@@ -1,5 +1,5 @@
 -- What a network file tells as a study (ours): its lines, relays, faults and exempt pairs in order, by their numbers.
-use Rattle.std.specs.Prelude.{List, [], map, length, sum_by, Result, Ok, Err}
+use Rattle.std.specs.Prelude.{List, [], map, length, sum_by, Result, Ok}
 use Rattle.coord_model.specs.StudyData.{StudyData}
 use Rattle.coord_model.specs.declared.kinds.TableName.TheVariants as tables
 use Rattle.coord_model.specs.declared.kinds.What.TheVariants.{Buses, PickupSteps}

@@ -1,9 +1,9 @@
 -- What the values of the network file's keys are read as (ours).
-use Rattle.std.specs.Prelude.{ℕ, ℤ, pos, negsuc, Bool, ◌&&◌, ◌||◌, ◌==◌, nat_le, List, Option, Some, None, Result, Ok, Err, if◌then◌else◌}
+use Rattle.std.specs.Prelude.{ℕ, pos, negsuc, ◌&&◌, nat_le, Option, Some, None, Result, Ok, Err, if◌then◌else◌}
 use Rattle.coord_model.specs.Name.{is_name}
 use Rattle.coord_model.specs.declared.curve.CurveName.{CurveName}
 use Rattle.coord_model.specs.declared.kinds.Key.{Key}
-use Rattle.coord_model.specs.declared.kinds.Key.TheVariants.{Curve, CtSecondary}
+use Rattle.coord_model.specs.declared.kinds.Key.TheVariants.{Curve}
 use Rattle.coord_model.specs.declared.kinds.NetKind.TheVariants.{Missing, WrongKind, OutOfRange, UnknownCurve}
 use Rattle.coord_model.specs.declared.name.Name.{Name}
 use Rattle.network_file.specs.declared.fault.NetFault.{NetFault}

@@ -1,5 +1,5 @@
 -- The words of the network file (ours).
-use Rattle.std.specs.Prelude.{ℕ, Bool, List, codes, Option, Some, None, if◌then◌else◌}
+use Rattle.std.specs.Prelude.{ℕ, List, codes, Option, Some, None, if◌then◌else◌}
 use Rattle.std.specs.Str.{bytes_eq}
 use Rattle.coord_model.specs.declared.kinds.Key.{Key}
 use Rattle.coord_model.specs.declared.kinds.Key.TheVariants.{Format, Study, Line, Relay, Fault, Exempt, CtiMs, Sense, Cap, LoadPercent, Name, From, To, Bus, Curve, CtPrimary, CtSecondary, PlugFirst, PlugStep, PlugCount, DialFirst, DialStep, DialCount, LoadAmps, Weight, Backup, Primary}

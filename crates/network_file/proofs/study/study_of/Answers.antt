@@ -1,6 +1,5 @@
 use Rattle.std.proofs.Common.{◌≡◌, length, ap, ◌∙◌, arith}
 use Rattle.std.proofs.lemmas.List.{length-map}
-use Rattle.coord_model.specs.Limits.{IsBetween}
 use Rattle.network_file.proofs.FitsParts.{lines_fit, relays_fit, faults_fit, pairs_fit}
 use Rattle.network_file.proofs.study.study_of.Goals as goal
 

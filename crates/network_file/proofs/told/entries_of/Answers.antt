@@ -1,9 +1,8 @@
-use Rattle.std.proofs.Common.{◌≡◌, ◌∷◌, ◌+◌, length, map, drop, sym, ap, ◌∙◌, arith, rules}
+use Rattle.std.proofs.Common.{◌≡◌, ◌+◌, map, drop, sym, ap, ◌∙◌, arith}
 use Rattle.std.proofs.lemmas.List.{drop_all}
 use Rattle.std.proofs.lemmas.List.Elements.{All-push}
 use Rattle.std.proofs.lemmas.Result.{err_from_is_err_and}
 use Rattle.network_file.specs.declared.fault.Place.{Place}
-use Rattle.network_file.specs.Fault.{Fails}
 use Rattle.network_file.specs.Elements.{entry_at, place_after}
 use Rattle.network_file.proofs.EachAfter.{seen_split, own_fault, goes_on, stops, ends}
 use Rattle.toml.specs.View.{view}
