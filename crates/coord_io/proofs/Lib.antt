@@ -1,0 +1,7 @@
+pub mod Changes
+pub mod Counting
+pub mod Goings
+pub mod HandedOver
+pub mod Outcomes
+mod Places
+mod Readings

@@ -1,0 +1,6 @@
+pub mod Faults
+pub mod Files
+pub mod Goes
+pub mod Memory
+pub mod Refusals
+pub mod Written

@@ -1,0 +1,4 @@
+pub mod FieldReads
+pub mod NoPrimaryNamed
+pub mod RowReads
+pub mod TableReads

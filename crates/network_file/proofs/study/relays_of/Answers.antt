@@ -1,0 +1,39 @@
+use Rattle.std.proofs.Common.{◌≡◌, [], Ok, sym, ap, ◌∙◌, arith}
+use Rattle.std.proofs.lemmas.List.{drop_all, map_push}
+use Rattle.std.proofs.lemmas.List.Elements.{All-push}
+use Rattle.std.proofs.lemmas.Result.{err_from_is_err_and}
+use Rattle.coord_model.specs.declared.kinds.TableName.TheVariants as tables
+use Rattle.coord_model.specs.declared.study.Relay.{Relay}
+use Rattle.network_file.specs.Fault.{Fails}
+use Rattle.coord_model.specs.Limits.{FitsRelay}
+use Rattle.network_file.specs.Fits.{study_with}
+use Rattle.network_file.specs.Study.{next_relay}
+use Rattle.network_file.specs.Elements.{place_after}
+use Rattle.network_file.proofs.EachAfter.{next_split, goes_on, stops, ends}
+use Rattle.network_file.proofs.study.relays_of.Goals as goal
+
+pub returns-in_err-relay-clause-exact : goal.returns-in_err-relay-clause-exact
+returns-in_err-relay-clause-exact c =
+    let p = err_from_is_err_and c.from_residual-in_err-relay.result c.from_residual-in_err-relay.ensures.1 in
+    let place : c.place_after-place.result ≡ place_after tables.Relay c.loop-entry.relays.items = c.place_after-place.ensures ∙ ap (place_after tables.Relay) c.deref.ensures.value in
+    let fault = c.in_err-relay.field-0.0 in
+    let here : Fails fault (next_relay c.args.grid.now.buses.keys c.args.grid.now.lines.items c.loop-entry.relays.items c.entry-item.result) = rw (← place, ← c.loop-entry.invariant.named, ← c.requires.named, ← c.deref-in-loop-entry.ensures.value) c.in_err-relay.ensures.exact in
+    rw (p.1, p.2) (stops (next_relay c.args.grid.now.buses.keys c.args.grid.now.lines.items) c.loop-entry.relays.items c.entry-item.result _ _ _ fault
+    (next_split c.args.entries.now c.loop-entry.entry-index c.entry-item.result c.loop-entry-test.true c.entry-item.is) here c.loop-entry.invariant.so_far)
+
+pub loop-entry-preserved : goal.loop-entry-preserved
+loop-entry-preserved c =
+    let place : c.place_after-place.result ≡ place_after tables.Relay c.loop-entry.relays.items = c.place_after-place.ensures ∙ ap (place_after tables.Relay) c.deref.ensures.value in
+    let made = c.in_ok-relay.relay in
+    let here : next_relay c.args.grid.now.buses.keys c.args.grid.now.lines.items c.loop-entry.relays.items c.entry-item.result ≡ Ok made = rw (← place, ← c.loop-entry.invariant.named, ← c.requires.named, ← c.deref-in-loop-entry.ensures.value) c.in_ok-relay.ensures.exact in
+    record {
+      counted = omega (arith, c.in_ok-push.ensures.len);
+      named = rw (c.in_ok-push.ensures.items, c.in_ok-relay.ensures.added, c.loop-entry.invariant.named) (sym (map_push (λ (x : Relay). x.name) c.loop-entry.relays.items made));
+      so_far = rw c.in_ok-push.ensures.items (goes_on (next_relay c.args.grid.now.buses.keys c.args.grid.now.lines.items) c.loop-entry.relays.items c.entry-item.result _ _ _ made
+          (next_split c.args.entries.now c.loop-entry.entry-index c.entry-item.result c.loop-entry-test.true c.entry-item.is) here c.loop-entry.invariant.so_far);
+      fits = rw c.in_ok-push.ensures.items (All-push (FitsRelay (study_with c.args.grid.now.buses.keys c.args.grid.now.lines.items [])) c.loop-entry.relays.items made c.loop-entry.invariant.fits c.in_ok-relay.ensures.fits);
+    }
+
+pub returns-clause-exact : goal.returns-clause-exact
+returns-clause-exact c =
+    ends (next_relay c.args.grid.now.buses.keys c.args.grid.now.lines.items) c.loop-entry.relays.items _ _ (drop_all c.loop-entry.entry-index c.args.entries.now c.loop-entry-test.false) c.loop-entry.invariant.so_far

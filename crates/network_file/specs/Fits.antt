@@ -1,0 +1,26 @@
+-- The parts of a study that the limits of its lines, relays, faults and exempt pairs speak of.
+use Rattle.std.specs.Prelude.{ℕ, ◌<◌, List, []}
+use Rattle.coord_model.specs.StudyData.{StudyData}
+use Rattle.coord_model.specs.declared.name.Name.{Name}
+use Rattle.coord_model.specs.declared.study.Exempt.{Exempt}
+use Rattle.coord_model.specs.declared.study.Line.{Line}
+use Rattle.coord_model.specs.declared.study.Relay.{Relay}
+
+-- a study of these buses, lines and relays, and nothing else
+abbrev pub study_with : List Name → List Line → List Relay → StudyData
+study_with buses lines relays = record {
+  cti_ms = 0;
+  sense = 0;
+  cap = 0;
+  load_percent = 0;
+  buses = buses;
+  lines = lines;
+  relays = relays;
+  faults = [];
+  exempt = [];
+}
+
+-- both relays of the pair are below the count
+pub record IsPairBelow (count : ℕ) (pair : Exempt) : Type 0 where
+  pub backup : pair.backup < count
+  pub primary : pair.primary < count

@@ -1,0 +1,14 @@
+pub mod Elements
+pub mod Entries
+pub mod EntryLimits
+pub mod Fault
+pub mod Fits
+pub mod Names
+pub mod Network
+pub mod Numbered
+pub mod RelayEntries
+pub mod Study
+pub mod Tables
+pub mod Told
+pub mod Values
+pub mod Words

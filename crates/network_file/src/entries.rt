@@ -1,0 +1,194 @@
+//! The tables of the network file as they are told, with names where a study has numbers.
+ghost use Rattle.std.specs.Prelude.{◌≡◌, ◌⊎◌, ℕ, Result, IfOk};
+ghost use Rattle.network_file.specs.Entries.{study_entry, line_entry, fault_entry, exempt_entry};
+ghost use Rattle.network_file.specs.RelayEntries.{secondary_at, relay_entry};
+ghost use Rattle.network_file.specs.EntryLimits.{StudyKeeps, LineKeeps, RelayKeeps, FaultKeeps, ExemptKeeps};
+ghost use Rattle.network_file.specs.declared.fault.NetFault.{NetFault};
+ghost use Rattle.network_file.specs.declared.fault.Place.{Place};
+ghost use Rattle.toml.specs.Data.{Members};
+ghost use Rattle.toml.specs.View.{table_view};
+
+use crate::fault::NetFault;
+use crate::fields::Fields;
+use coord_model::{CurveName, Key, Name, NetKind};
+
+/// A table that is read key by key.
+pub(crate) trait Entry: Copy {
+    /// What it is read as, by the file's format, its place and its members.
+    ghost entry_of: { ℕ → Place → Members → Result Self NetFault };
+
+    /// Its numbers are within their limits.
+    ghost Keeps: { Self → Type 0 };
+
+    fn read(format: u32, fields: Fields) -> Result<Self, NetFault>
+        ensures exact { result ≡ entry_of format fields.entry.place (table_view fields.entry.table.now) }
+        ensures keeps { IfOk result Keeps };
+}
+
+/// The study, in the units of `Study`.
+#[derive(Clone, Copy)]
+pub(crate) struct StudyEntry {
+    pub cti_ms: u32,
+    pub sense: u32,
+    pub cap: u32,
+    pub load_percent: u32,
+}
+
+/// A line between two buses.
+#[derive(Clone, Copy)]
+pub(crate) struct LineEntry {
+    pub name: Name,
+    pub from: Name,
+    pub to: Name,
+}
+
+/// A relay, in the units of `Relay`.
+#[derive(Clone, Copy)]
+pub(crate) struct RelayEntry {
+    pub name: Name,
+    pub line: Name,
+    pub bus: Name,
+    pub curve: CurveName,
+    pub ct_primary: u32,
+    pub ct_secondary: u32,
+    pub plug_first: u32,
+    pub plug_step: u32,
+    pub plug_count: u32,
+    pub dial_first: u32,
+    pub dial_step: u32,
+    pub dial_count: u32,
+    pub load_amps: u32,
+}
+
+/// A fault on a line.
+#[derive(Clone, Copy)]
+pub(crate) struct FaultEntry {
+    pub name: Name,
+    pub line: Name,
+    pub weight: u32,
+}
+
+/// A pair of relays that needs no coordination.
+#[derive(Clone, Copy)]
+pub(crate) struct ExemptEntry {
+    pub backup: Name,
+    pub primary: Name,
+}
+
+impl Entry for StudyEntry {
+    ghost entry_of = { study_entry };
+
+    ghost Keeps = { StudyKeeps };
+
+    #[tactic(auto, unfolding(crate::specs::Entries::study_entry))]
+    fn read(_format: u32, fields: Fields) -> Result<StudyEntry, NetFault> {
+        fields.only(&[Key::CtiMs, Key::Sense, Key::Cap, Key::LoadPercent])?;
+        Ok(StudyEntry {
+            cti_ms: fields.number(Key::CtiMs, 1, 10_000)?,
+            sense: fields.number_or(Key::Sense, 110, 105, 500)?,
+            cap: fields.number_or(Key::Cap, 20, 5, 30)?,
+            load_percent: fields.number_or(Key::LoadPercent, 120, 100, 300)?,
+        })
+    }
+}
+
+impl Entry for LineEntry {
+    ghost entry_of = { line_entry };
+
+    ghost Keeps = { LineKeeps };
+
+    #[tactic(auto, unfolding(crate::specs::Entries::line_entry))]
+    fn read(_format: u32, fields: Fields) -> Result<LineEntry, NetFault> {
+        fields.only(&[Key::Name, Key::From, Key::To])?;
+        Ok(LineEntry {
+            name: fields.name(Key::Name)?,
+            from: fields.name(Key::From)?,
+            to: fields.name(Key::To)?,
+        })
+    }
+}
+
+impl Entry for RelayEntry {
+    ghost entry_of = { relay_entry };
+
+    ghost Keeps = { RelayKeeps };
+
+    #[tactic(auto, unfolding(crate::specs::RelayEntries::relay_entry))]
+    fn read(_format: u32, fields: Fields) -> Result<RelayEntry, NetFault> {
+        fields.only(&[
+            Key::Name,
+            Key::Line,
+            Key::Bus,
+            Key::Curve,
+            Key::CtPrimary,
+            Key::CtSecondary,
+            Key::PlugFirst,
+            Key::PlugStep,
+            Key::PlugCount,
+            Key::DialFirst,
+            Key::DialStep,
+            Key::DialCount,
+            Key::LoadAmps,
+        ])?;
+        Ok(RelayEntry {
+            name: fields.name(Key::Name)?,
+            line: fields.name(Key::Line)?,
+            bus: fields.name(Key::Bus)?,
+            curve: fields.curve()?,
+            ct_primary: fields.number(Key::CtPrimary, 1, 10_000)?,
+            ct_secondary: secondary(fields)?,
+            plug_first: fields.number(Key::PlugFirst, 1, 10_000)?,
+            plug_step: fields.number_or(Key::PlugStep, 1, 1, 10_000)?,
+            plug_count: fields.number_or(Key::PlugCount, 1, 1, 64)?,
+            dial_first: fields.number(Key::DialFirst, 1, 15_000)?,
+            dial_step: fields.number_or(Key::DialStep, 1, 1, 15_000)?,
+            dial_count: fields.number_or(Key::DialCount, 1, 1, 4_000)?,
+            load_amps: fields.number_or(Key::LoadAmps, 0, 0, 100_000)?,
+        })
+    }
+}
+
+/// The rated secondary current of a current transformer, 1 or 5 amperes.
+#[tactic(auto, unfolding(crate::specs::RelayEntries::secondary_at))]
+fn secondary(fields: Fields) -> Result<u32, NetFault>
+    ensures exact { result ≡ secondary_at fields.entry.place (table_view fields.entry.table.now) }
+    ensures rated { IfOk result (λ amps. (amps ≡ 1) ⊎ (amps ≡ 5)) }
+{
+    let amps = fields.number(Key::CtSecondary, 1, 5)?;
+    if amps == 1 || amps == 5 {
+        Ok(amps)
+    } else {
+        Err(fields.place.fault(NetKind::OutOfRange, Key::CtSecondary))
+    }
+}
+
+impl Entry for FaultEntry {
+    ghost entry_of = { fault_entry };
+
+    ghost Keeps = { FaultKeeps };
+
+    #[tactic(auto, unfolding(crate::specs::Entries::fault_entry))]
+    fn read(_format: u32, fields: Fields) -> Result<FaultEntry, NetFault> {
+        fields.only(&[Key::Name, Key::Line, Key::Weight])?;
+        Ok(FaultEntry {
+            name: fields.name(Key::Name)?,
+            line: fields.name(Key::Line)?,
+            weight: fields.number_or(Key::Weight, 1, 1, 1_000)?,
+        })
+    }
+}
+
+impl Entry for ExemptEntry {
+    ghost entry_of = { exempt_entry };
+
+    ghost Keeps = { ExemptKeeps };
+
+    #[tactic(auto, unfolding(crate::specs::Entries::exempt_entry))]
+    fn read(_format: u32, fields: Fields) -> Result<ExemptEntry, NetFault> {
+        fields.only(&[Key::Backup, Key::Primary])?;
+        Ok(ExemptEntry {
+            backup: fields.name(Key::Backup)?,
+            primary: fields.name(Key::Primary)?,
+        })
+    }
+}

@@ -1,0 +1,191 @@
+//! The names of an entry as numbers, by the rules that tie the tables together.
+ghost use Rattle.std.specs.Prelude.{◌≡◌, ◌+◌, ◌-◌, ◌*◌, ◌^◌, ◌<◌, ◌≤◌, [], ◌∷◌, ◌++◌, length, slice_get, IfOk};
+ghost use Rattle.coord_model.specs.Limits.{FitsLine, FitsRelay, FitsFault};
+ghost use Rattle.coord_model.specs.Rows.{ends_at};
+ghost use Rattle.network_file.specs.EntryLimits.{RelayKeeps, FaultKeeps};
+ghost use Rattle.network_file.specs.Fault.{Gives};
+ghost use Rattle.network_file.specs.Fits.{study_with, IsPairBelow};
+ghost use Rattle.network_file.specs.Study.{line_names};
+ghost use Rattle.network_file.specs.Numbered.{line_in, relay_at, is_taken, relay_in, fault_on, exempt_in};
+
+use crate::entries::{ExemptEntry, FaultEntry, LineEntry, RelayEntry};
+use crate::fault::{NetFault, Place};
+use crate::names::{Names, add_new, number_in};
+use coord_model::{Exempt, Fault, Key, Line, NetKind, Relay};
+
+/// The greatest plug, in hundredths of a secondary ampere.
+const GREATEST_PLUG: u64 = 10_000;
+
+/// The greatest dial, in thousandths.
+const GREATEST_DIAL: u64 = 15_000;
+
+/// The buses and the lines of a study, and the numbers of their names.
+#[derive(Drop)]
+pub(crate) struct Grid {
+    pub buses: Names,
+    pub line_names: Names,
+    pub lines: Vec<Line>,
+}
+
+/// A line with its buses' numbers.
+#[tactic(auto, unfolding(crate::specs::Numbered::line_in))]
+pub(crate) fn line_in(
+    buses: &Names,
+    place: Place,
+    names: &mut Names,
+    entry: LineEntry,
+) -> Result<Line, NetFault>
+    requires { length buses.now.keys ≤ 2 ^ 16 }
+    ensures exact { Gives (λ line. line) result (line_in buses.now.keys place names.old.keys entry) }
+    ensures added { IfOk result (λ line. names.new.keys ≡ names.old.keys ++ line.name ∷ []) }
+    ensures fits { IfOk result (FitsLine (study_with buses.now.keys [] [])) }
+{
+    add_new(names, place, entry.name)?;
+    if entry.from == entry.to {
+        return Err(place.fault(NetKind::LoopLine, Key::To));
+    }
+    let Some(from) = number_in(buses, entry.from) else {
+        return Err(place.fault(NetKind::UnknownName, Key::From));
+    };
+    let Some(to) = number_in(buses, entry.to) else {
+        return Err(place.fault(NetKind::UnknownName, Key::To));
+    };
+    Ok(Line {
+        name: entry.name,
+        from,
+        to,
+    })
+}
+
+/// A relay with its line's and its bus's numbers, after the relays before it.
+#[tactic(auto, unfolding(crate::specs::Numbered::relay_in))]
+pub(crate) fn relay_in(
+    grid: &Grid,
+    place: Place,
+    names: &mut Names,
+    before: &[Relay],
+    entry: RelayEntry,
+) -> Result<Relay, NetFault>
+    requires buses { length grid.now.buses.keys ≤ 64 }
+    requires lines { length grid.now.line_names.keys ≤ 64 }
+    requires named { grid.now.line_names.keys ≡ line_names grid.now.lines.items }
+    requires keeps { RelayKeeps entry }
+    ensures exact { Gives (λ relay. relay) result
+        (relay_in grid.now.buses.keys grid.now.line_names.keys grid.now.lines.items place names.old.keys before.now entry) }
+    ensures added { IfOk result (λ relay. names.new.keys ≡ names.old.keys ++ relay.name ∷ []) }
+    ensures fits { IfOk result (FitsRelay (study_with grid.now.buses.keys grid.now.lines.items [])) }
+{
+    add_new(names, place, entry.name)?;
+    let Some(line) = number_in(&grid.line_names, entry.line) else {
+        return Err(place.fault(NetKind::UnknownName, Key::Line));
+    };
+    let Some(bus) = number_in(&grid.buses, entry.bus) else {
+        return Err(place.fault(NetKind::NotAtLine, Key::Bus));
+    };
+    if !ends_at(&grid.lines, line, bus) {
+        return Err(place.fault(NetKind::NotAtLine, Key::Bus));
+    }
+    if is_taken(before, line, bus) {
+        return Err(place.fault(NetKind::TwoRelaysAtEnd, Key::Bus));
+    }
+    if last(entry.plug_first, entry.plug_step, entry.plug_count) > GREATEST_PLUG {
+        return Err(place.fault(NetKind::OutOfRange, Key::PlugCount));
+    }
+    if last(entry.dial_first, entry.dial_step, entry.dial_count) > GREATEST_DIAL {
+        return Err(place.fault(NetKind::OutOfRange, Key::DialCount));
+    }
+    Ok(relay_at(entry, line, bus))
+}
+
+/// Whether the line has an end at the bus.
+fn ends_at(lines: &[Line], line: u16, bus: u16) -> bool
+    ensures { result ≡ ends_at (slice_get lines.now line) bus }
+{
+    match lines.get(usize::from(line)) {
+        Some(line) => line.from == bus || line.to == bus,
+        None => false,
+    }
+}
+
+/// Whether one of the relays stands at this end of the line.
+fn is_taken(relays: &[Relay], line: u16, bus: u16) -> bool
+    ensures { result ≡ is_taken relays.now line bus }
+{
+    relays
+        .iter()
+        .any(|relay| relay.line == line && relay.bus == bus)
+}
+
+/// The value at the last of the steps.
+fn last(first: u32, step: u32, count: u32) -> u64
+    requires { 1 ≤ count }
+    ensures { result ≡ first + (count - 1) * step }
+{
+    u64::from(first) + u64::from(count - 1) * u64::from(step)
+}
+
+fn relay_at(entry: RelayEntry, line: u16, bus: u16) -> Relay
+    ensures { result ≡ relay_at entry line bus }
+{
+    Relay {
+        name: entry.name,
+        line,
+        bus,
+        curve: entry.curve,
+        ct_primary: entry.ct_primary,
+        ct_secondary: entry.ct_secondary,
+        plug_first: entry.plug_first,
+        plug_step: entry.plug_step,
+        plug_count: entry.plug_count,
+        dial_first: entry.dial_first,
+        dial_step: entry.dial_step,
+        dial_count: entry.dial_count,
+        load_amps: entry.load_amps,
+    }
+}
+
+/// A fault with its line's number.
+#[tactic(auto, unfolding(crate::specs::Numbered::fault_on))]
+pub(crate) fn fault_on(
+    grid: &Grid,
+    place: Place,
+    names: &mut Names,
+    entry: FaultEntry,
+) -> Result<Fault, NetFault>
+    requires lines { length grid.now.line_names.keys ≤ 64 }
+    requires named { grid.now.line_names.keys ≡ line_names grid.now.lines.items }
+    requires keeps { FaultKeeps entry }
+    ensures exact { Gives (λ fault. fault) result (fault_on grid.now.line_names.keys place names.old.keys entry) }
+    ensures added { IfOk result (λ fault. names.new.keys ≡ names.old.keys ++ fault.name ∷ []) }
+    ensures fits { IfOk result (FitsFault (study_with grid.now.buses.keys grid.now.lines.items [])) }
+{
+    add_new(names, place, entry.name)?;
+    let Some(line) = number_in(&grid.line_names, entry.line) else {
+        return Err(place.fault(NetKind::UnknownName, Key::Line));
+    };
+    Ok(Fault {
+        name: entry.name,
+        line,
+        weight: entry.weight,
+    })
+}
+
+/// An exempt pair with its relays' numbers.
+#[tactic(auto, unfolding(crate::specs::Numbered::exempt_in))]
+pub(crate) fn exempt_in(
+    relay_names: &Names,
+    place: Place,
+    entry: ExemptEntry,
+) -> Result<Exempt, NetFault>
+    requires { length relay_names.now.keys ≤ 96 }
+    ensures exact { result ≡ exempt_in relay_names.now.keys place entry }
+    ensures within { IfOk result (IsPairBelow (length relay_names.now.keys)) }
+{
+    let Some(backup) = number_in(relay_names, entry.backup) else {
+        return Err(place.fault(NetKind::UnknownName, Key::Backup));
+    };
+    let Some(primary) = number_in(relay_names, entry.primary) else {
+        return Err(place.fault(NetKind::UnknownName, Key::Primary));
+    };
+    Ok(Exempt { backup, primary })
+}

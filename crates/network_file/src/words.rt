@@ -1,0 +1,56 @@
+//! The words of keys and curves.
+ghost use Rattle.std.specs.Prelude.{◌≡◌};
+ghost use Rattle.network_file.specs.Words.{word_of, curve_named};
+
+use coord_model::{CurveName, Key};
+
+/// The word of a key, as a network file and a fault's text spell it.
+pub fn word(key: Key) -> &'static str
+    ensures { result.now ≡ word_of key }
+{
+    match key {
+        Key::Format => "format",
+        Key::Study => "study",
+        Key::Line => "line",
+        Key::Relay => "relay",
+        Key::Fault => "fault",
+        Key::Exempt => "exempt",
+        Key::CtiMs => "cti_ms",
+        Key::Sense => "sense",
+        Key::Cap => "cap",
+        Key::LoadPercent => "load_percent",
+        Key::Name => "name",
+        Key::From => "from",
+        Key::To => "to",
+        Key::Bus => "bus",
+        Key::Curve => "curve",
+        Key::CtPrimary => "ct_primary",
+        Key::CtSecondary => "ct_secondary",
+        Key::PlugFirst => "plug_first",
+        Key::PlugStep => "plug_step",
+        Key::PlugCount => "plug_count",
+        Key::DialFirst => "dial_first",
+        Key::DialStep => "dial_step",
+        Key::DialCount => "dial_count",
+        Key::LoadAmps => "load_amps",
+        Key::Weight => "weight",
+        Key::Backup => "backup",
+        Key::Primary => "primary",
+    }
+}
+
+/// The curve with this name.
+#[tactic(auto, unfolding(crate::specs::Words::curve_named))]
+pub(crate) fn curve_named(name: &str) -> Option<CurveName>
+    ensures { result ≡ curve_named name.now }
+{
+    match name {
+        "iec-a" => Some(CurveName::IecA),
+        "iec-b" => Some(CurveName::IecB),
+        "iec-c" => Some(CurveName::IecC),
+        "ieee-mi" => Some(CurveName::IeeeMi),
+        "ieee-vi" => Some(CurveName::IeeeVi),
+        "ieee-ei" => Some(CurveName::IeeeEi),
+        _ => None,
+    }
+}
