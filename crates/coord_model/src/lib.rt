@@ -12,6 +12,7 @@ mod memory;
 mod name;
 mod order;
 mod study;
+mod weights;
 
 pub use choice::{Choice, Ending};
 pub use curve::{Curve, CurveForm, CurveName, form};
@@ -21,3 +22,4 @@ pub use memory::NoMemory;
 pub use name::Name;
 pub use order::under_is_at_most_over;
 pub use study::{Current, Currents, Exempt, Fault, Line, Pair, Relay, Row, Study, Term};
+pub use weights::{Weight, Weights};
