@@ -1,5 +1,5 @@
 -- The text of a settings sheet (ours): its head, a line for each relay where settings are issued, and `end`.
-use Rattle.std.specs.Prelude.{◌≡◌, ℕ, ◌^◌, ◌<◌, Option, Some, None, is_some, List, [], ◌++◌, codes, slice_get, slice_index, IfSome, IsSome, IsNone}
+use Rattle.std.specs.Prelude.{◌≡◌, ℕ, Option, Some, None, is_some, List, [], ◌++◌, codes, slice_get, slice_index, IfSome, IsSome, IsNone}
 use Rattle.std.specs.Fmt.{decimal}
 use Rattle.std.specs.List.{flat_map}
 use Rattle.std.specs.Option.{option_map_or, option_map}
@@ -81,7 +81,5 @@ GoesWith Hairline cost bound = IsSome bound
 -- a sheet of the study: numbers that go with its ending, and settings on the steps exactly where it has a cost
 pub record IsSheet (study : StudyData) (sheet : SheetData) : Type 0 where
   pub goes : GoesWith sheet.ending sheet.cost sheet.bound
-  pub cost : IfSome sheet.cost (λ cost. cost < 10 ^ 16)
-  pub bound : IfSome sheet.bound (λ bound. bound < 10 ^ 16)
   pub issued : is_some sheet.settings ≡ is_some sheet.cost
   pub on_steps : IfSome sheet.settings (AreOnSteps study)
