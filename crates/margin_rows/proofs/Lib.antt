@@ -1,0 +1,15 @@
+pub mod Boxed
+pub mod Costs
+pub mod Counted
+pub mod Curves
+pub mod Division
+pub mod Filled
+pub mod Kept
+pub mod Listed
+pub mod Members
+pub mod Multiples
+pub mod Ran
+pub mod Reached
+pub mod Separated
+pub mod Timed
+pub mod WaitingRows

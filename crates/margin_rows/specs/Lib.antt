@@ -3,6 +3,8 @@ pub mod FirstBox
 pub mod Given
 pub mod Margin
 pub mod Price
+pub mod Reach
 pub mod Refusal
 pub mod Tables
 pub mod Times
+pub mod Waiting

@@ -1,5 +1,5 @@
 //! The enclosure of a curve's operating time in whole nanoseconds.
-ghost use Rattle.std.specs.Prelude.{◌≡◌, ◌^◌};
+ghost use Rattle.std.specs.Prelude.{◌≡◌, ◌^◌, ◌≤◌, ◌⊎◌};
 ghost use Rattle.coord_model.specs.Enclosure.{IsEnclosable};
 ghost use Rattle.coord_model.specs.Form.{form_of};
 ghost use Rattle.coord_model.specs.Time.{Multiple, IsUnder, IsOver};
@@ -32,7 +32,13 @@ pub fn enclose(curve: CurveName, num: u64, den: u64) -> (u64, u64)
 }
 
 /// A multiple of pickup, raised to a curve's exponent.
-fn raised(num: u64, den: u64, exponent: u32) -> (u64, u64) {
+fn raised(num: u64, den: u64, exponent: u32) -> (u64, u64)
+    requires num { num ≤ 3000000000 }
+    requires den { den ≤ 100000000 }
+    requires exponent { (exponent ≡ 1) ⊎ (exponent ≡ 2) }
+    ensures num { result.0 ≡ num ^ exponent }
+    ensures den { result.1 ≡ den ^ exponent }
+{
     if exponent == 1 {
         (num, den)
     } else {

@@ -1,10 +1,10 @@
 //! What is given: a study and its currents, with the currents as a table.
-ghost use Rattle.std.specs.Prelude.{◌≡◌, ◌*◌, ◌<◌, ◌≤◌, length, All, IfOk};
+ghost use Rattle.std.specs.Prelude.{◌≡◌, ◌*◌, ◌<◌, ◌≤◌, [], length, All, IfOk};
 ghost use Rattle.coord_model.specs.Limits.{FitsStudy, FitsCurrents};
 ghost use Rattle.coord_model.specs.Rows.{amps_at};
 ghost use Rattle.coord_model.specs.StudyData.{study_data, entries_of};
 ghost use Rattle.margin_rows.specs.Case.{case_of, HasWholeExponent};
-ghost use Rattle.margin_rows.specs.Given.{HoldsAmps};
+ghost use Rattle.margin_rows.specs.Given.{HasPlace, HoldsAmps};
 
 use coord_model::{Current, Currents, Fault, NoMemory, Relay, Study};
 use std::alloc::Global;
@@ -83,15 +83,22 @@ fn amps(
     requires faults { faults ≤ 256 }
     requires relays { relays ≤ 96 }
     requires entries { All (λ entry. (entry.fault < faults) × (entry.relay < relays)) entries.now }
-    ensures { IfOk result (λ table. HoldsAmps faults relays entries.now table.items) }
+
+    ensures size { IfOk result (λ table. length table.items ≡ faults * relays) }
+    ensures each { IfOk result (λ table. HoldsAmps relays entries.now table.items) }
 {
     let mut table = vec![in alloc; 0; faults * relays]?;
     fill(relays, entries, table.as_mut_slice());
     Ok(table)
 }
 
-/// Writes each entry to its place, unless an earlier entry above 0 stands there.
-fn fill(relays: usize, entries: &[Current], table: &mut [u32]) {
+/// Writes each entry to its place in a table of zeros, unless an earlier entry above 0 stands there.
+fn fill(relays: usize, entries: &[Current], table: &mut [u32])
+    requires relays { relays ≤ 96 }
+    requires places { All (HasPlace relays (length table.old)) entries.now }
+    requires empty { HoldsAmps relays [] table.old }
+    ensures { HoldsAmps relays entries.now table.new }
+{
     for entry in entries {
         let place = usize::from(entry.fault) * relays + usize::from(entry.relay);
         if table[place] == 0 {

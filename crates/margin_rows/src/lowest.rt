@@ -12,5 +12,14 @@ use std::alloc::Global;
 pub fn lowest_choice(alloc: Global, inst: &Instance) -> Result<Option<Choice>, NoMemory>
     ensures { IfOk result (λ found. IsLowestOf inst.now (option_map choice_data found)) }
 {
-    Err(NoMemory)
+    let relays = inst.study().relays.len();
+    let mut pickup = Vec::with_capacity(alloc, relays)?;
+    for relay in 0..relays as u16 {
+        let Some((low, _high)) = inst.first_pickups(relay) else {
+            return Ok(None);
+        };
+        pickup.push(low)?;
+    }
+    let dial = vec![in alloc; 0; relays]?;
+    Ok(Some(Choice { pickup, dial }))
 }

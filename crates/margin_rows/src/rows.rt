@@ -3,6 +3,7 @@ ghost use Rattle.std.specs.Prelude.{◌≡◌, ◌<◌, ◌≤◌, ◌++◌, len
 ghost use Rattle.coord_model.specs.Rows.{pairs_of, rows_at};
 ghost use Rattle.margin_rows.specs.Case.{rows_in};
 ghost use Rattle.margin_rows.specs.Refusal.{HasCause};
+ghost use Rattle.margin_rows.specs.Waiting.{waits_at};
 
 use crate::fault::{BuildFault, ROW_LIMIT};
 use crate::given::Given;
@@ -51,6 +52,11 @@ fn push_rows_at(
 }
 
 /// Whether at a fault the primary of a pair clears it and the backup has a current.
-fn waits(given: &Given, fault: u16, pair: &Pair) -> bool {
+fn waits(given: &Given, fault: u16, pair: &Pair) -> bool
+    requires fault { fault < length given.now.study.faults }
+    requires backup { pair.now.backup < length given.now.study.relays }
+    requires primary { pair.now.primary < length given.now.study.relays }
+    ensures { result ≡ waits_at given.now fault pair.now }
+{
     is_primary(given, fault, pair.primary) && given.amps(fault, pair.backup) > 0
 }

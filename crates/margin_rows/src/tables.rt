@@ -35,7 +35,7 @@ pub fn tabulate(alloc: Global, given: &Given) -> Result<Tables, BuildFault>
     let terms = terms(alloc, given)?;
     let rows = rows(alloc, given, pairs.as_slice())?;
     let spans = first_spans(alloc, given, terms.as_slice(), rows.as_slice())?;
-    let mut runs = no_runs(alloc, given.study())?;
+    let mut runs = no_runs(alloc, given)?;
     let term_runs = term_runs(alloc, given, terms.as_slice(), &mut runs)?;
     let row_runs = row_runs(alloc, given, rows.as_slice(), &mut runs)?;
     Ok(Tables {
