@@ -16,12 +16,8 @@ use Rattle.margin_rows.specs.Margin.{MeetsLoosely, MeetsStrictly}
 use Rattle.margin_rows.proofs.Costs.{AreSet}
 use Rattle.margin_rows.proofs.Kept.{strict_keeps, kept_meets}
 use Rattle.margin_rows.proofs.Listed.{term_facts, row_facts, backup_used, primary_used}
+use Rattle.margin_rows.proofs.Places.{some_and}
 use Rattle.margin_rows.proofs.Timed.{IsTimedAt, IsEnclosed, enclosed}
-
--- what a value holds of which a fact is known
-pub some_and : {X : Type 0} (o : Option X) (P : X → Type 0) → IsSomeAnd o P → (x : X) × (o ≡ Some x) × P x
-some_and None P fact = absurd fact
-some_and (Some x) P fact = (x, refl, fact)
 
 -- a step of the first box senses each current that counts
 pub first_is_timed : (case : Case) (f i step : ℕ) → IsUsed case.study case.currents f i → IsFirstStep case i step → IsTimedAt case f i step

@@ -23,10 +23,10 @@ curve_time_is IeeeMi m whole = absurd (omega (arith, whole))
 curve_time_is IeeeVi m whole = refl
 curve_time_is IeeeEi m whole = refl
 
-pow_one : (x : ℕ) → x ^ 1 ≡ x
+pub pow_one : (x : ℕ) → x ^ 1 ≡ x
 pow_one x = pow-suc x 0 ∙ (rw pow-zero (omega arith))
 
-pow_two : (x : ℕ) → x ^ 2 ≡ x * x
+pub pow_two : (x : ℕ) → x ^ 2 ≡ x * x
 pow_two x = pow-suc x 1 ∙ ap (λ w. w * x) (pow_one x)
 
 -- a constant term is left out of the excess
@@ -194,3 +194,21 @@ time_is_over curve m whole within =
   where
     some_ceil : (a b : ℕ) → 0 < b → b ≤ a → a ≤ div_ceil a b * b → 0 < div_ceil a b
     some_ceil a b some covers reaches = omega (arith, le-div 1 a b some (omega (arith, covers)), floor_le_ceil a b)
+
+-- the powers that the code forms, and the quotients: from them the ends
+pub powers_apart : (curve : CurveName) (m : Multiple) (form : CurveForm) (a b : ℕ) → (form_of curve).h ≡ 1 → IsEnclosable m → form ≡ form_of curve
+    → a ≡ m.num ^ form.e → b ≡ m.den ^ form.e → b < a
+powers_apart curve m form a b whole within is num den =
+    let facts = modest curve m whole within in
+    let e : form.e ≡ (form_of curve).e = ap (λ (f : CurveForm). f.e) is in
+    rw (num, den, e) facts.above
+
+pub lower_is : (curve : CurveName) (m : Multiple) (form : CurveForm) (a b k t above c : ℕ) → (form_of curve).h ≡ 1 → form ≡ form_of curve → a ≡ m.num ^ form.e → b ≡ m.den ^ form.e
+    → k ≡ form.k4 → t ≡ 100000 → above ≡ a - b → c ≡ form.c4 → k * t * b / above + c * 100000 ≡ (curve_time curve m).lower
+lower_is curve m form a b k t above c whole is num den k_is t_is above_is c_is =
+    rw (curve_time_is curve m whole, above_is, num, den, k_is, t_is, c_is, is) refl
+
+pub upper_is : (curve : CurveName) (m : Multiple) (form : CurveForm) (a b k t above c up : ℕ) → (form_of curve).h ≡ 1 → form ≡ form_of curve → a ≡ m.num ^ form.e → b ≡ m.den ^ form.e
+    → k ≡ form.k4 → t ≡ 100000 → above ≡ a - b → c ≡ form.c4 → up ≡ div_ceil (k * t * b) above → up + c * 100000 ≡ (curve_time curve m).upper
+upper_is curve m form a b k t above c up whole is num den k_is t_is above_is c_is up_is =
+    rw (curve_time_is curve m whole, up_is, above_is, num, den, k_is, t_is, c_is, is) refl

@@ -1,11 +1,12 @@
 -- The table of currents, entry by entry.
 use Rattle.std.specs.Prelude.{◌&&◌, ◌==◌, nat_lt, slice_index}
-use Rattle.std.proofs.Common.{◌≡◌, ◌≢◌, ℕ, ◌+◌, ◌*◌, ◌<◌, ◌≤◌, Bool, true, false, cond, eqb, ltb, List, [], ◌∷◌, ◌++◌, length, replicate, set, get_or, arith, refl, sym, ap, ◌∙◌, ◌⊎◌, inl, inr, subst}
+use Rattle.std.proofs.Common.{◌≡◌, ◌≢◌, ℕ, ◌+◌, ◌*◌, ◌<◌, ◌≤◌, Bool, true, false, cond, eqb, ltb, List, [], ◌∷◌, ◌++◌, length, replicate, set, take, get_or, arith, refl, sym, ap, ◌∙◌, ◌⊎◌, inl, inr, subst}
 use Rattle.std.proofs.lemmas.Bool.{cases_eq, cases_lt, eqb-true}
 use Rattle.std.proofs.lemmas.Bool.Decides.{nat_tests}
 use Rattle.std.proofs.lemmas.Grind.{common_steps}
-use Rattle.std.proofs.lemmas.List.{length-set, get_or-set_same, get_or-set_other, get_or-replicate, length-replicate}
+use Rattle.std.proofs.lemmas.List.{length-set, take_more, get_or-set_same, get_or-set_other, get_or-replicate, length-replicate}
 use Rattle.std.proofs.lemmas.Nat.{same_from_place}
+use Rattle.std.specs.List.{All}
 use Rattle.coord_model.specs.Rows.{amps_at}
 use Rattle.coord_model.specs.declared.study.Current.{Current}
 use Rattle.margin_rows.specs.Given.{HasPlace, HoldsAmps}
@@ -90,3 +91,26 @@ filled_kept relays xs entry table holds place stands = record { each = λ f r be
               amps_kept xs (entry ∷ []) f r (omega (arith, nonzero))
           | inr apart ↦ others_stay relays xs entry f r (λ p. apart (ap (λ (k : ℕ). k * relays + r) (sym p.0) ∙ ap (λ (k : ℕ). entry.fault * relays + k) (sym p.1)))
         ]
+
+-- the loop's step: the entry at a place of the list is written, or one stands there already
+pub fill_write : (relays : ℕ) (entries : List Current) (i n : ℕ) (table later : List ℕ) (f r : ℕ) (d : Current) → i < length entries → HoldsAmps relays (take i entries) table
+    → All (HasPlace relays n) entries → length table ≡ n → f ≡ (get_or entries i d).fault → r ≡ (get_or entries i d).relay
+    → get_or table (f * relays + r) 0 ≡ 0 → later ≡ set table (f * relays + r) (get_or entries i d).amps → HoldsAmps relays (take (i + 1) entries) later
+fill_write relays entries i n table later f r d below holds places size fault relay empty written =
+    let e = get_or entries i d in
+    let P : ℕ → Type 0 = λ k. HasPlace relays k e in
+    let place : HasPlace relays (length table) e = subst P (sym size) (places i d below) in
+    let at : f * relays + r ≡ e.fault * relays + e.relay = ap (λ (k : ℕ). k * relays + r) fault ∙ ap (λ (k : ℕ). e.fault * relays + k) relay in
+    rw (take_more entries i d below, written, at)
+    (filled_write relays (take i entries) e table holds place (ap (λ (k : ℕ). get_or table k 0) (sym at) ∙ empty))
+
+pub fill_kept : (relays : ℕ) (entries : List Current) (i n : ℕ) (table later : List ℕ) (f r : ℕ) (d : Current) → i < length entries → HoldsAmps relays (take i entries) table
+    → All (HasPlace relays n) entries → length table ≡ n → f ≡ (get_or entries i d).fault → r ≡ (get_or entries i d).relay
+    → (get_or table (f * relays + r) 0 ≡ 0 → ⊥) → later ≡ table → HoldsAmps relays (take (i + 1) entries) later
+fill_kept relays entries i n table later f r d below holds places size fault relay stands same =
+    let e = get_or entries i d in
+    let P : ℕ → Type 0 = λ k. HasPlace relays k e in
+    let place : HasPlace relays (length table) e = subst P (sym size) (places i d below) in
+    let at : f * relays + r ≡ e.fault * relays + e.relay = ap (λ (k : ℕ). k * relays + r) fault ∙ ap (λ (k : ℕ). e.fault * relays + k) relay in
+    rw (take_more entries i d below, same)
+    (filled_kept relays (take i entries) e table holds place (λ zero. stands (ap (λ (k : ℕ). get_or table k 0) at ∙ zero)))

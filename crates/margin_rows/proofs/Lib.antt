@@ -8,6 +8,7 @@ pub mod Kept
 pub mod Listed
 pub mod Members
 pub mod Multiples
+pub mod Places
 pub mod Ran
 pub mod Reached
 pub mod Separated

@@ -1,6 +1,7 @@
 -- The terms and rows of a case name faults and relays of its study.
 use Rattle.std.specs.Prelude.{◌&&◌, nat_lt, slice_get}
-use Rattle.std.proofs.Common.{◌≡◌, ℕ, ◌<◌, ◌≤◌, Bool, true, false, List, length, Some, None, Option, arith, refl, sym, ap, ◌∙◌, ◌⊎◌, inl, inr, subst}
+use Rattle.std.proofs.Common.{◌≡◌, ℕ, ◌<◌, ◌≤◌, Bool, true, false, List, length, Some, None, Option, arith, refl, sym, ap, ◌∙◌, ◌⊎◌, inl, inr, subst, get_or}
+use Rattle.std.proofs.lemmas.List.Elements.{Contains-get_or}
 use Rattle.std.specs.List.{Contains, All, filter}
 use Rattle.coord_model.specs.Allowed.{IsUsed}
 use Rattle.coord_model.specs.Rows.{amps_at, is_primary, waits, backs, terms_of, terms_at, rows_of, rows_at, rows_behind, relay_numbers, fault_numbers}
@@ -72,3 +73,14 @@ pub primary_used : (case : Case) (row : Row) → Contains (rows_in case) row →
 primary_used case row listed =
     let facts = row_facts case row listed in
     inl (is_term case row.fault row.primary facts.fault facts.primary facts.clears)
+
+-- the facts of the term and of the row at a place
+pub term_at : (case : Case) (terms : List Term) (i : ℕ) (d : Term) → terms ≡ terms_in case → i < length terms → IsTermOf case (get_or terms i d)
+term_at case terms i d is below =
+    term_facts case (get_or terms i d) (let P : List Term → Type 0 = λ ts. Contains ts (get_or terms i d) in subst P is (Contains-get_or terms i d below))
+
+pub row_listed : (case : Case) (rows : List Row) (i : ℕ) (d : Row) → rows ≡ rows_in case → i < length rows → Contains (rows_in case) (get_or rows i d)
+row_listed case rows i d is below = let P : List Row → Type 0 = λ rs. Contains rs (get_or rows i d) in subst P is (Contains-get_or rows i d below)
+
+pub row_at : (case : Case) (rows : List Row) (i : ℕ) (d : Row) → rows ≡ rows_in case → i < length rows → IsRowOf case (get_or rows i d)
+row_at case rows i d is below = row_facts case (get_or rows i d) (row_listed case rows i d is below)

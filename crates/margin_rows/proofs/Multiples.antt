@@ -1,7 +1,7 @@
 -- The multiples at which a relay's time is enclosed.
 use Rattle.std.proofs.Common.{◌≡◌, ℕ, Bool, true, false, cond, leb, ◌+◌, ◌-◌, ◌*◌, ◌<◌, ◌≤◌, arith, refl, sym, ap, ◌∙◌, ◌⊎◌, inl, inr, lit<, lit≤}
 use Rattle.std.proofs.Math.Nat.{mul-le-mul_left, mul-le-mul_right}
-use Rattle.std.proofs.lemmas.Bool.{leb-false}
+use Rattle.std.proofs.lemmas.Bool.{leb-false, lt-leb}
 use Rattle.std.proofs.lemmas.Nat.{mul-le}
 use Rattle.coord_model.specs.Allowed.{Senses}
 use Rattle.coord_model.specs.Enclosure.{IsEnclosable}
@@ -59,4 +59,11 @@ pub sensed_enclosable : (study : StudyData) (relay : Relay) (step amps : ℕ) �
     → Senses study relay step amps → IsEnclosable (capped study.cap (sensed_multiple relay step amps))
 sensed_enclosable study relay step amps fits relay_fits below few senses =
     capped_enclosable study.cap study.sense (sensed_multiple relay step amps) (leb (study.cap * (sensed_multiple relay step amps).den) (sensed_multiple relay step amps).num) refl
+    fits.cap.at_least fits.cap.at_most fits.sense.at_least senses (multiple_small study relay step amps relay_fits below few)
+
+-- a multiple below the cap is enclosed as it is
+pub below_cap : (study : StudyData) (relay : Relay) (step amps : ℕ) → FitsStudy study → FitsRelay study relay → step < relay.plug_count → amps ≤ 100000
+    → Senses study relay step amps → (sensed_multiple relay step amps).num < study.cap * (sensed_multiple relay step amps).den → IsEnclosable (sensed_multiple relay step amps)
+below_cap study relay step amps fits relay_fits below few senses under =
+    capped_enclosable study.cap study.sense (sensed_multiple relay step amps) false (lt-leb (study.cap * (sensed_multiple relay step amps).den) (sensed_multiple relay step amps).num under)
     fits.cap.at_least fits.cap.at_most fits.sense.at_least senses (multiple_small study relay step amps relay_fits below few)

@@ -1,5 +1,5 @@
 //! The pickup steps of the first box: those that sense each current that counts, and clear the load.
-ghost use Rattle.std.specs.Prelude.{◌≡◌, ◌*◌, ◌+◌, ◌<◌, ◌≤◌, ◌↔◌, length, All, Contains, IfOk, IsTrue, IsSomeAnd, slice_get};
+ghost use Rattle.std.specs.Prelude.{◌≡◌, ℕ, ◌<◌, ◌≤◌, ◌↔◌, length, All, Contains, IfOk, IsTrue, IsSomeAnd, slice_get};
 ghost use Rattle.coord_model.specs.Allowed.{Senses, ClearsLoad, IsUsed};
 ghost use Rattle.coord_model.specs.Limits.{FitsStudy, FitsRelay};
 ghost use Rattle.coord_model.specs.StudyData.{study_data};
@@ -124,7 +124,7 @@ fn spans(alloc: Global, given: &Given, reach: &[u16]) -> Result<Vec<Option<(u16,
     ensures each { IfOk result (λ spans. (i : ℕ) → i < length given.now.study.relays → IsSomeAnd (slice_get spans.items i) (IsFirstSpanOf given.now i)) }
 {
     let mut spans = Vec::new(alloc);
-    for relay in 0..reach.len() as u16 {
+    for relay in 0..given.study().relays.len() as u16 {
         spans.push(span(given, relay, reach[usize::from(relay)]))?;
     }
     Ok(spans)
