@@ -6,8 +6,10 @@ pub mod Division
 pub mod Filled
 pub mod Kept
 pub mod Listed
+pub mod Looked
 pub mod Members
 pub mod Multiples
+pub mod Placed
 pub mod Places
 pub mod Ran
 pub mod Reached

@@ -20,6 +20,11 @@ pub record IsFirstSpan (case : Case) (relay low high : ℕ) : Type 0 where
   pub inside : (step : ℕ) → low ≤ step → step ≤ high → IsFirstStep case relay step
   pub no_other : (step : ℕ) → IsFirstStep case relay step → (low ≤ step) × (step ≤ high)
 
+-- the step is the lowest that the first box has of the relay
+pub record IsFirstLow (case : Case) (relay low : ℕ) : Type 0 where
+  pub first : IsFirstStep case relay low
+  pub lowest : (step : ℕ) → IsFirstStep case relay step → low ≤ step
+
 -- the span is that of the relay in the first box
 abbrev pub IsFirstSpanOf : Case → ℕ → Option (ℕ × ℕ) → Type 0
 IsFirstSpanOf case relay None = HasNoStep case relay

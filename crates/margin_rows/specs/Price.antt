@@ -2,9 +2,21 @@
 use Rattle.std.specs.Prelude.{ℕ, ◌*◌, ◌/◌, slice_index}
 use Rattle.std.specs.Int.{div_ceil}
 use Rattle.coord_model.specs.Choice.{Settings}
-use Rattle.coord_model.specs.Cost.{weighted_sum}
+use Rattle.coord_model.specs.Allowed.{dial_of}
+use Rattle.coord_model.specs.Cost.{weight_of, weighted_sum}
+use Rattle.coord_model.specs.declared.study.Term.{Term}
 use Rattle.margin_rows.specs.Case.{Case}
 use Rattle.margin_rows.specs.Margin.{time_of}
+
+-- the least weighted time of a term, in weighted picoseconds
+abbrev pub least_part : Case → Settings → Term → ℕ
+least_part case settings term =
+    weight_of case.study term.fault * dial_of case.study settings term.relay * (time_of case settings term.fault term.relay).lower
+
+-- the greatest weighted time of a term
+abbrev pub greatest_part : Case → Settings → Term → ℕ
+greatest_part case settings term =
+    weight_of case.study term.fault * dial_of case.study settings term.relay * (time_of case settings term.fault term.relay).upper
 
 -- the weighted sum of the primary operating times at their upper ends, in weighted picoseconds
 abbrev pub greatest_sum : Case → Settings → ℕ

@@ -26,8 +26,9 @@ pub fn first_spans(
     ensures each { IfOk result (λ spans. (i : ℕ) → i < length given.now.study.relays → IsSomeAnd (slice_get spans.items i) (IsFirstSpanOf given.now i)) }
 {
     let mut reach = all_steps(alloc, given)?;
-    leave_terms(given, terms, reach.as_mut_slice());
-    leave_rows(given, terms, rows, reach.as_mut_slice());
+    let left = reach.as_mut_slice();
+    leave_terms(given, terms, left);
+    leave_rows(given, terms, rows, left);
     spans(alloc, given, reach.as_slice())
 }
 

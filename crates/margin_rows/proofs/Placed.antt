@@ -1,0 +1,89 @@
+-- Facts of the row, and of the term, with a number.
+use Rattle.std.specs.Prelude.{slice_get, slice_index, pos, ◌≤ℤ◌}
+use Rattle.std.specs.Option.{IfSome, IsSomeAnd, option_map_or}
+use Rattle.std.specs.List.{Contains, All, filter, sum_by, flat_map, range_with_len}
+use Rattle.std.proofs.Common.{◌≡◌, ℕ, ◌+◌, ◌*◌, ◌^◌, ◌<◌, ◌≤◌, ◌↔◌, List, [], ◌∷◌, length, get_or, take, Some, None, Option, arith, refl, sym, ap, ◌∙◌, ◌⊎◌, inl, inr, subst, map}
+use Rattle.std.proofs.lemmas.Int.{ints}
+use Rattle.std.proofs.lemmas.List.{length-map, get_or_default}
+use Rattle.std.proofs.lemmas.List.Concat.{length-flat_map}
+use Rattle.std.proofs.lemmas.List.Elements.{Contains-get_or, All-from_get_or}
+use Rattle.std.proofs.lemmas.List.FromFn.{length-range_with_len}
+use Rattle.std.proofs.lemmas.List.Sums.{sum_by-le, length-filter, count_by-le-length, sum_by_more}
+use Rattle.std.proofs.lemmas.Option.{slice_get-get_or, slice_get_within, get_or_from_slice_get}
+use Rattle.std.proofs.Math.Nat.{mul-le-mul_left, mul-le-mul_right}
+use Rattle.std.proofs.lemmas.Nat.{mul-le}
+use Rattle.coord_model.specs.Rows.{is_primary, terms_at, relay_numbers, fault_numbers}
+use Rattle.coord_model.specs.declared.study.Row.{Row}
+use Rattle.coord_model.specs.declared.study.Term.{Term}
+use Rattle.margin_rows.specs.Case.{Case, FitsCase, rows_in, terms_in, AtRow, AtTerm}
+use Rattle.coord_model.specs.Enclosure.{Enclosure}
+use Rattle.margin_rows.specs.Margin.{margin}
+use Rattle.margin_rows.specs.Times.{ends, IsOrdinary}
+
+-- a fact of the row at a place is one of the row with its number
+pub row_there : (case : Case) (rows : List Row) (i : ℕ) (r : Row) → rows ≡ rows_in case → i < length rows → r ≡ get_or rows i r → slice_get (rows_in case) i ≡ Some r
+row_there case rows i r same below is = let P : List Row → Type 0 = λ rs. slice_get rs i ≡ Some r in subst P same (slice_get-get_or rows i r below ∙ ap Some (sym is))
+
+pub term_there : (case : Case) (terms : List Term) (i : ℕ) (t : Term) → terms ≡ terms_in case → i < length terms → t ≡ get_or terms i t → slice_get (terms_in case) i ≡ Some t
+term_there case terms i t same below is = let P : List Term → Type 0 = λ ts. slice_get ts i ≡ Some t in subst P same (slice_get-get_or terms i t below ∙ ap Some (sym is))
+
+pub found_listed : {X : Type 0} (xs : List X) (i : ℕ) (x : X) → slice_get xs i ≡ Some x → Contains xs x
+found_listed xs i x found = (i, slice_get_within xs i x found, get_or_from_slice_get xs i x x found)
+
+pub if_some : {X : Type 0} (o : Option X) (P : X → Type 0) (x : X) → o ≡ Some x → P x → IfSome o P
+if_some o P x is fact = rw is fact
+
+pub of_some : {X : Type 0} (o : Option X) (P : X → Type 0) (x : X) → o ≡ Some x → IfSome o P → P x
+of_some o P x is fact = rw is at fact
+
+-- two facts of the row with a number give a third
+pub at_row : (case : Case) (row : ℕ) (P Q R : Row → Type 0) → AtRow case row P → AtRow case row Q → ((r : Row) → Contains (rows_in case) r → P r → Q r → R r) → AtRow case row R
+at_row case row P Q R p q gives = go (slice_get (rows_in case) row) refl p q
+  where
+    go : (o : Option Row) → slice_get (rows_in case) row ≡ o → IfSome o P → IfSome o Q → IfSome o R
+    go None found p q = tt
+    go (Some r) found p q = gives r (found_listed (rows_in case) row r found) p q
+
+-- a margin is at least 0 exactly where the backup waits long enough
+pub margin_sign : (backup primary interval : ℕ) → (pos 0 ≤ℤ margin backup primary interval) ↔ (primary + interval ≤ backup)
+margin_sign backup primary interval = (λ h. omega (arith, ints, h), λ h. omega (arith, ints, h))
+
+-- a case has at most as many terms as places in its table
+pub terms_few : (case : Case) → length case.study.faults ≤ 256 → length case.study.relays ≤ 96 → length (terms_in case) ≤ 24576
+terms_few case faults relays =
+    let each : All (λ f. length (terms_at case.study case.currents f) ≤ length case.study.relays) (fault_numbers case.study) = λ k d below. at_fault (get_or (fault_numbers case.study) k d) in
+    let whole = sum_by-le (λ f. length (terms_at case.study case.currents f)) (length case.study.relays) (fault_numbers case.study) each in
+    let product : length case.study.faults * length case.study.relays ≤ 256 * 96 = mul-le (length case.study.faults) (length case.study.relays) 256 96 faults relays in
+    let count : length (fault_numbers case.study) ≡ length case.study.faults = length-range_with_len 0 (length case.study.faults) in
+    omega (arith, length-flat_map (terms_at case.study case.currents) (fault_numbers case.study), rw count at whole, product)
+  where
+    at_fault : (f : ℕ) → length (terms_at case.study case.currents f) ≤ length case.study.relays
+    at_fault f =
+        omega (arith, length-map (filter (is_primary case.study case.currents f) (relay_numbers case.study)) (λ (p : ℕ). let t : Term = record { fault = f; relay = p } in t),
+        length-filter (is_primary case.study case.currents f) (relay_numbers case.study), count_by-le-length (is_primary case.study case.currents f) (relay_numbers case.study), length-range_with_len 0 (length case.study.relays))
+
+-- the row that the code reads
+pub row_read : (case : Case) (rows : List Row) (i row : ℕ) (d : Row) → rows ≡ rows_in case → i ≡ row → row < length (rows_in case) → slice_get (rows_in case) row ≡ Some (get_or rows i d)
+row_read case rows i row d same is below =
+    let P : List Row → Type 0 = λ rs. slice_get (rows_in case) row ≡ Some (get_or rs i d) in
+    subst P (sym same) (slice_get-get_or (rows_in case) row d below ∙ ap (λ (k : ℕ). Some (get_or (rows_in case) k d)) (sym is))
+
+pub term_read : (case : Case) (terms : List Term) (i term : ℕ) (d : Term) → terms ≡ terms_in case → i ≡ term → term < length (terms_in case) → slice_get (terms_in case) term ≡ Some (get_or terms i d)
+term_read case terms i term d same is below =
+    let P : List Term → Type 0 = λ ts. slice_get (terms_in case) term ≡ Some (get_or ts i d) in
+    subst P (sym same) (slice_get-get_or (terms_in case) term d below ∙ ap (λ (k : ℕ). Some (get_or (terms_in case) k d)) (sym is))
+
+-- both ends of an ordinary time are small
+pub ends_small : (e : Enclosure) (time : ℕ × ℕ) → time ≡ ends e → IsOrdinary e → (time.0 < 2 ^ 40) × (time.1 < 2 ^ 40)
+ends_small e time is ordinary = (omega (arith, ap (λ (p : ℕ × ℕ). p.0) is, ordinary.ordered, ordinary.small), omega (arith, ap (λ (p : ℕ × ℕ). p.1) is, ordinary.small))
+
+-- the number that the code reads at a place
+pub number_read : (xs : List ℕ) (n i x : ℕ) → n ≡ i → i < length xs → x ≡ get_or xs n x → get_or xs i 0 ≡ x
+number_read xs n i x same below read = get_or_default xs i 0 x below ∙ ap (λ (k : ℕ). get_or xs k x) (sym same) ∙ sym read
+
+-- both ends of a time at a dial
+pub at_dial_is : (e : Enclosure) (time result : ℕ × ℕ) (dial factor : ℕ) → time ≡ ends e → dial ≡ factor → result.0 ≡ dial * time.0 → result.1 ≡ dial * time.1 → result ≡ (factor * e.lower, factor * e.upper)
+at_dial_is e time result dial factor is same low high = pair_is result (factor * e.lower) (factor * e.upper) (rw (low, same, is) refl) (rw (high, same, is) refl)
+  where
+    pair_is : (p : ℕ × ℕ) (a b : ℕ) → p.0 ≡ a → p.1 ≡ b → p ≡ (a, b)
+    pair_is p a b x y = cc
