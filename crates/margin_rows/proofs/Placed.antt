@@ -86,4 +86,4 @@ pub at_dial_is : (e : Enclosure) (time result : ℕ × ℕ) (dial factor : ℕ) 
 at_dial_is e time result dial factor is same low high = pair_is result (factor * e.lower) (factor * e.upper) (rw (low, same, is) refl) (rw (high, same, is) refl)
   where
     pair_is : (p : ℕ × ℕ) (a b : ℕ) → p.0 ≡ a → p.1 ≡ b → p ≡ (a, b)
-    pair_is p a b x y = cc
+    pair_is (u, v) a b x y = ap (λ (k : ℕ). (k, v)) x ∙ ap (λ (k : ℕ). (a, k)) y

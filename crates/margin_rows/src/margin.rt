@@ -2,7 +2,7 @@
 ghost use Rattle.std.specs.Prelude.{◌≡◌, ℕ, ◌*◌, ◌^◌, ◌<◌, ◌≤◌, ◌↔◌, pos, ◌≤ℤ◌, length, All, IsTrue};
 ghost use Rattle.coord_model.specs.Allowed.{IsAllowed, KeepsInterval, dial_of};
 ghost use Rattle.coord_model.specs.Choice.{choice_data};
-ghost use Rattle.margin_rows.specs.Case.{rows_in, AtRow};
+ghost use Rattle.margin_rows.specs.Case.{rows_in, AtRow, FitsCase};
 ghost use Rattle.margin_rows.specs.FirstBox.{IsInFirstBox};
 ghost use Rattle.margin_rows.specs.Margin.{interval_ps, least_ps, greatest_ps, margin, loose_margin, strict_margin, MeetsLoosely, MeetsStrictly};
 
@@ -109,6 +109,7 @@ pub fn dial(inst: &Instance, choice: &Choice, relay: u16) -> u64
 fn interval_ps(inst: &Instance) -> u64
     ensures exact { result ≡ interval_ps inst.now.study }
     ensures small { result < 2 ^ 54 }
+    ensures fits { FitsCase inst.now }
 {
     u64::from(inst.study().cti_ms) * 1_000_000_000
 }
