@@ -7,6 +7,7 @@ pub mod Filled
 pub mod Kept
 pub mod Listed
 pub mod Looked
+pub mod Lowered
 pub mod Members
 pub mod Multiples
 pub mod Placed

@@ -4,7 +4,7 @@ use Rattle.std.specs.Option.{IfSome, IsSomeAnd, option_map_or}
 use Rattle.std.specs.List.{Contains, All, filter, sum_by, flat_map, range_with_len}
 use Rattle.std.proofs.Common.{◌≡◌, ℕ, ◌+◌, ◌*◌, ◌^◌, ◌<◌, ◌≤◌, ◌↔◌, List, [], ◌∷◌, length, get_or, take, Some, None, Option, arith, refl, sym, ap, ◌∙◌, ◌⊎◌, inl, inr, subst, map}
 use Rattle.std.proofs.lemmas.Int.{ints}
-use Rattle.std.proofs.lemmas.List.{length-map, get_or_default}
+use Rattle.std.proofs.lemmas.List.{length-map, get_or_default, take_all}
 use Rattle.std.proofs.lemmas.List.Concat.{length-flat_map}
 use Rattle.std.proofs.lemmas.List.Elements.{Contains-get_or, All-from_get_or}
 use Rattle.std.proofs.lemmas.List.FromFn.{length-range_with_len}
@@ -13,6 +13,10 @@ use Rattle.std.proofs.lemmas.Option.{slice_get-get_or, slice_get_within, get_or_
 use Rattle.std.proofs.Math.Nat.{mul-le-mul_left, mul-le-mul_right}
 use Rattle.std.proofs.lemmas.Nat.{mul-le}
 use Rattle.coord_model.specs.Rows.{is_primary, terms_at, relay_numbers, fault_numbers}
+use Rattle.coord_model.specs.Cost.{weight_of}
+use Rattle.coord_model.specs.Limits.{FitsStudy}
+use Rattle.coord_model.specs.StudyData.{StudyData}
+use Rattle.coord_model.specs.declared.study.Fault.{Fault}
 use Rattle.coord_model.specs.declared.study.Row.{Row}
 use Rattle.coord_model.specs.declared.study.Term.{Term}
 use Rattle.margin_rows.specs.Case.{Case, FitsCase, rows_in, terms_in, AtRow, AtTerm}
@@ -59,8 +63,13 @@ terms_few case faults relays =
   where
     at_fault : (f : ℕ) → length (terms_at case.study case.currents f) ≤ length case.study.relays
     at_fault f =
-        omega (arith, length-map (filter (is_primary case.study case.currents f) (relay_numbers case.study)) (λ (p : ℕ). let t : Term = record { fault = f; relay = p } in t),
-        length-filter (is_primary case.study case.currents f) (relay_numbers case.study), count_by-le-length (is_primary case.study case.currents f) (relay_numbers case.study), length-range_with_len 0 (length case.study.relays))
+        omega (
+          arith,
+          length-map (filter (is_primary case.study case.currents f) (relay_numbers case.study)) (λ (p : ℕ). let t : Term = record { fault = f; relay = p } in t),
+          length-filter (is_primary case.study case.currents f) (relay_numbers case.study),
+          count_by-le-length (is_primary case.study case.currents f) (relay_numbers case.study),
+          length-range_with_len 0 (length case.study.relays),
+        )
 
 -- the row that the code reads
 pub row_read : (case : Case) (rows : List Row) (i row : ℕ) (d : Row) → rows ≡ rows_in case → i ≡ row → row < length (rows_in case) → slice_get (rows_in case) row ≡ Some (get_or rows i d)
@@ -87,3 +96,37 @@ at_dial_is e time result dial factor is same low high = pair_is result (factor *
   where
     pair_is : (p : ℕ × ℕ) (a b : ℕ) → p.0 ≡ a → p.1 ≡ b → p ≡ (a, b)
     pair_is (u, v) a b x y = ap (λ (k : ℕ). (k, v)) x ∙ ap (λ (k : ℕ). (a, k)) y
+
+-- a fact of the row with each number is one of all rows
+pub all_rows : (case : Case) (P : Row → Type 0) (n : ℕ) → length (rows_in case) ≤ n → ((k : ℕ) → k < n → AtRow case k P) → All P (rows_in case)
+all_rows case P n covers each k d below =
+    of_some (slice_get (rows_in case) k) P (get_or (rows_in case) k d) (slice_get-get_or (rows_in case) k d below) (each k (omega (arith, below, covers)))
+
+-- the weight of a fault of the study
+pub weight_there : (case : Case) (study : StudyData) (f i : ℕ) (d : Fault) → FitsStudy case.study → study ≡ case.study → i ≡ f → f < length case.study.faults
+    → ((get_or study.faults i d).weight ≡ weight_of case.study f) × ((get_or study.faults i d).weight ≤ 1000)
+weight_there case study f i d fits same is below =
+    let found : slice_get case.study.faults f ≡ Some (get_or case.study.faults f d) = slice_get-get_or case.study.faults f d below in
+    let weight = weighed (slice_get case.study.faults f) (get_or case.study.faults f d) found in
+    let few = (fits.faults f d below).weight.at_most in
+    let P : StudyData → ℕ → Type 0 = λ s k. ((get_or s.faults k d).weight ≡ weight_of case.study f) × ((get_or s.faults k d).weight ≤ 1000) in
+    rw (same, is) (sym weight, few)
+  where
+    weighed : (o : Option Fault) (x : Fault) → o ≡ Some x → option_map_or (λ fault. fault.weight) o 0 ≡ x.weight
+    weighed o x is = rw is refl
+
+-- one term more in a weighted sum
+pub part_more : (case : Case) (part : Term → ℕ) (term sum value result : ℕ) → term < length (terms_in case) → sum ≡ sum_by part (take term (terms_in case)) → result ≡ value → AtTerm case term (λ t. value ≡ part t)
+    → sum + result ≡ sum_by part (take (term + 1) (terms_in case))
+part_more case part term sum value result below so_far same is =
+    let d : Term = record { fault = 0; relay = 0 } in
+    let here = of_some (slice_get (terms_in case) term) (λ t. value ≡ part t) (get_or (terms_in case) term d) (slice_get-get_or (terms_in case) term d below) is in
+    omega (arith, sum_by_more part (terms_in case) term d below, so_far, same, here)
+
+-- the whole sum
+pub part_all : (case : Case) (part : Term → ℕ) (term sum : ℕ) → length (terms_in case) ≤ term → sum ≡ sum_by part (take term (terms_in case)) → sum ≡ sum_by part (terms_in case)
+part_all case part term sum past so_far = so_far ∙ ap (λ (ts : List Term). sum_by part ts) (take_all term (terms_in case) past)
+
+-- an end of a time at a dial and a weight
+pub weighted_is : (w w' d d' t t' r : ℕ) → r ≡ w * d * t → w ≡ w' → d ≡ d' → t ≡ t' → r ≡ w' * d' * t'
+weighted_is w w' d d' t t' r is a b e = rw (is, a, b, e) refl

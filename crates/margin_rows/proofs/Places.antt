@@ -20,9 +20,9 @@ pub each_push : {X : Type 0} (P : ℕ → X → Type 0) (xs ys : List X) (x : X)
     → (i : ℕ) → i < n + 1 → IsSomeAnd (slice_get ys i) (P i)
 each_push P xs ys x n count is each here i below =
     elim (cases_eq i n) [
-      inl same ↦ and_some (slice_get ys i) (P i) x (rw is (slice_get-get_or (xs ++ x ∷ []) i x (omega (arith, same, count, length_push xs x)) ∙ ap Some (get_or_push xs x x i (count ∙ sym same)))) (let Q : ℕ → Type 0 = λ k. P k x in subst Q (sym same) here)
-    | inr apart ↦
-        let found = some_and (slice_get xs i) (P i) (each i (omega (arith, below, apart))) in
-        let within = slice_get_within xs i found.0 found.1 in
-        and_some (slice_get ys i) (P i) found.0 (rw is (slice_get-get_or (xs ++ x ∷ []) i found.0 (omega (arith, within, length_push xs x)) ∙ ap Some (get_or_append_left xs (x ∷ []) found.0 i within ∙ get_or_from_slice_get xs i found.0 found.0 found.1))) found.2
+      | inl same ↦ and_some (slice_get ys i) (P i) x (rw is (slice_get-get_or (xs ++ x ∷ []) i x (omega (arith, same, count, length_push xs x)) ∙ ap Some (get_or_push xs x x i (count ∙ sym same)))) (let Q : ℕ → Type 0 = λ k. P k x in subst Q (sym same) here)
+      | inr apart ↦
+          let found = some_and (slice_get xs i) (P i) (each i (omega (arith, below, apart))) in
+          let within = slice_get_within xs i found.0 found.1 in
+          and_some (slice_get ys i) (P i) found.0 (rw is (slice_get-get_or (xs ++ x ∷ []) i found.0 (omega (arith, within, length_push xs x)) ∙ ap Some (get_or_append_left xs (x ∷ []) found.0 i within ∙ get_or_from_slice_get xs i found.0 found.0 found.1))) found.2
     ]

@@ -44,8 +44,10 @@ slice_get_grown xs ys k x found =
 
 pub run_grown : (case : Case) (old new : List (ℕ × ℕ)) (f r start : ℕ) → Extends old new → HoldsRun case old f r start → HoldsRun case new f r start
 run_grown case old new f r start extends run =
-    record { each = λ step timed. let P : List (ℕ × ℕ) → Type 0 = λ ts. slice_get ts (start + step) ≡ Some (ends (time_at case f r step)) in
-        subst P (sym extends.1) (slice_get_grown old extends.0 (start + step) (ends (time_at case f r step)) (run.each step timed)) }
+    record {
+      each = λ step timed. let P : List (ℕ × ℕ) → Type 0 = λ ts. slice_get ts (start + step) ≡ Some (ends (time_at case f r step)) in
+          subst P (sym extends.1) (slice_get_grown old extends.0 (start + step) (ends (time_at case f r step)) (run.each step timed));
+    }
 
 pub extends_none : (old : List (ℕ × ℕ)) → Extends old old
 extends_none old = ([], sym (append-nil old))
@@ -57,11 +59,12 @@ extends_again old mid new first second = (first.0 ++ second.0, second.1 ∙ (ap 
 pub run_pushed : (case : Case) (times : List (ℕ × ℕ)) (f r : ℕ) (relay : Relay) → slice_get case.study.relays r ≡ Some relay
     → HoldsRun case (times ++ cells case.study relay (amps_at case.currents f r)) f r (length times)
 run_pushed case times f r relay found =
-    record { each = λ step timed.
-      let parts = some_and (slice_get case.study.relays r) (λ x. (step < x.plug_count) × Senses case.study x step (amps_at case.currents f r)) timed in
-      let same : parts.0 ≡ relay = same_some parts.0 relay (sym parts.1 ∙ found) in
-      let P : Relay → Type 0 = λ x. (step < x.plug_count) × Senses case.study x step (amps_at case.currents f r) in
-      placed step (subst P same parts.2)
+    record {
+      each = λ step timed.
+          let parts = some_and (slice_get case.study.relays r) (λ x. (step < x.plug_count) × Senses case.study x step (amps_at case.currents f r)) timed in
+          let same : parts.0 ≡ relay = same_some parts.0 relay (sym parts.1 ∙ found) in
+          let P : Relay → Type 0 = λ x. (step < x.plug_count) × Senses case.study x step (amps_at case.currents f r) in
+          placed step (subst P same parts.2);
     }
   where
     same_some : {X : Type 0} (x y : X) → Some x ≡ Some y → x ≡ y
@@ -103,17 +106,17 @@ runs_more case runs later f r start holds fault relay extends written run =
     record {
       count = ap (λ (ss : List (Option ℕ)). length ss) written ∙ length-set runs.starts.items place (Some start) ∙ holds.count;
       each = λ g j begin g_in j_in stands.
-        let there : slice_get (set runs.starts.items place (Some start)) (g * length case.study.relays + j) ≡ Some (Some begin) =
-            let P : List (Option ℕ) → Type 0 = λ ss. slice_get ss (g * length case.study.relays + j) ≡ Some (Some begin) in subst P written stands in
-        elim (cases_eq (g * length case.study.relays + j) place) [
-          inl same ↦
-            let parts = same_from_place g j f r (length case.study.relays) j_in relay same in
-            let value = set_there runs.starts.items place (Some start) (Some begin) (let P : ℕ → Type 0 = λ k. slice_get (set runs.starts.items place (Some start)) k ≡ Some (Some begin) in subst P same there) in
-            let start_is : start ≡ begin = cc in
-            let T : ℕ → ℕ → ℕ → Type 0 = λ a b k. HoldsRun case later.times.items a b k in
-            rw (parts.0, parts.1, ← start_is) run
-        | inr apart ↦ run_grown case runs.times.items later.times.items g j begin extends (holds.each g j begin g_in j_in (set_else runs.starts.items place (g * length case.study.relays + j) (Some start) (Some begin) apart there))
-        ];
+          let there : slice_get (set runs.starts.items place (Some start)) (g * length case.study.relays + j) ≡ Some (Some begin) =
+          let P : List (Option ℕ) → Type 0 = λ ss. slice_get ss (g * length case.study.relays + j) ≡ Some (Some begin) in subst P written stands in
+          elim (cases_eq (g * length case.study.relays + j) place) [
+            | inl same ↦
+                let parts = same_from_place g j f r (length case.study.relays) j_in relay same in
+                let value = set_there runs.starts.items place (Some start) (Some begin) (let P : ℕ → Type 0 = λ k. slice_get (set runs.starts.items place (Some start)) k ≡ Some (Some begin) in subst P same there) in
+                let start_is : start ≡ begin = cc in
+                let T : ℕ → ℕ → ℕ → Type 0 = λ a b k. HoldsRun case later.times.items a b k in
+                rw (parts.0, parts.1, ← start_is) run
+            | inr apart ↦ run_grown case runs.times.items later.times.items g j begin extends (holds.each g j begin g_in j_in (set_else runs.starts.items place (g * length case.study.relays + j) (Some start) (Some begin) apart there))
+          ];
     }
   where
     set_there : {X : Type 0} (xs : List X) (k : ℕ) (x y : X) → slice_get (set xs k x) k ≡ Some y → x ≡ y
@@ -136,17 +139,17 @@ pub term_runs_more : (case : Case) (terms : List Term) (old new : List (ℕ × �
     → (k : ℕ) → k < i + 1 → IsSomeAnd (slice_get terms k) (λ term. HoldsRun case new term.fault term.relay (get_or later k 0))
 term_runs_more case terms old new starts later i start d below count pushed extends each run k inside =
     elim (cases_eq k i) [
-      inl same ↦
-        let value : get_or later k 0 ≡ start = ap (λ (ss : List ℕ). get_or ss k 0) pushed ∙ get_or_push starts start 0 k (count ∙ sym same) in
-        let found : slice_get terms k ≡ Some (get_or terms i d) = ap (λ (j : ℕ). slice_get terms j) same ∙ slice_get-get_or terms i d below in
-        let P : ℕ → Type 0 = λ s. HoldsRun case new (get_or terms i d).fault (get_or terms i d).relay s in
-        and_some (slice_get terms k) (λ term. HoldsRun case new term.fault term.relay (get_or later k 0)) (get_or terms i d) found (subst P (sym value) run)
-    | inr apart ↦
-        let old_fact = some_and (slice_get terms k) (λ term. HoldsRun case old term.fault term.relay (get_or starts k 0)) (each k (omega (arith, inside, apart))) in
-        let value : get_or later k 0 ≡ get_or starts k 0 = ap (λ (ss : List ℕ). get_or ss k 0) pushed ∙ get_or_append_left starts (start ∷ []) 0 k (omega (arith, inside, apart, count)) in
-        let P : ℕ → Type 0 = λ s. HoldsRun case new old_fact.0.fault old_fact.0.relay s in
-        and_some (slice_get terms k) (λ term. HoldsRun case new term.fault term.relay (get_or later k 0)) old_fact.0 old_fact.1
-        (subst P (sym value) (run_grown case old new old_fact.0.fault old_fact.0.relay (get_or starts k 0) extends old_fact.2))
+      | inl same ↦
+          let value : get_or later k 0 ≡ start = ap (λ (ss : List ℕ). get_or ss k 0) pushed ∙ get_or_push starts start 0 k (count ∙ sym same) in
+          let found : slice_get terms k ≡ Some (get_or terms i d) = ap (λ (j : ℕ). slice_get terms j) same ∙ slice_get-get_or terms i d below in
+          let P : ℕ → Type 0 = λ s. HoldsRun case new (get_or terms i d).fault (get_or terms i d).relay s in
+          and_some (slice_get terms k) (λ term. HoldsRun case new term.fault term.relay (get_or later k 0)) (get_or terms i d) found (subst P (sym value) run)
+      | inr apart ↦
+          let old_fact = some_and (slice_get terms k) (λ term. HoldsRun case old term.fault term.relay (get_or starts k 0)) (each k (omega (arith, inside, apart))) in
+          let value : get_or later k 0 ≡ get_or starts k 0 = ap (λ (ss : List ℕ). get_or ss k 0) pushed ∙ get_or_append_left starts (start ∷ []) 0 k (omega (arith, inside, apart, count)) in
+          let P : ℕ → Type 0 = λ s. HoldsRun case new old_fact.0.fault old_fact.0.relay s in
+          and_some (slice_get terms k) (λ term. HoldsRun case new term.fault term.relay (get_or later k 0)) old_fact.0 old_fact.1
+          (subst P (sym value) (run_grown case old new old_fact.0.fault old_fact.0.relay (get_or starts k 0) extends old_fact.2))
     ]
 
 -- the two runs of a row stand in the list
@@ -162,15 +165,15 @@ pub row_runs_more : (case : Case) (rows : List Row) (old new : List (ℕ × ℕ)
     → (k : ℕ) → k < i + 1 → IsSomeAnd (slice_get rows k) (λ row. IsSomeAnd (slice_get later k) (λ runs. HoldsBoth case new row runs))
 row_runs_more case rows old new starts later i at d below count pushed extends each both k inside =
     elim (cases_eq k i) [
-      inl same ↦
-        let found : slice_get rows k ≡ Some (get_or rows i d) = ap (λ (j : ℕ). slice_get rows j) same ∙ slice_get-get_or rows i d below in
-        let value : slice_get later k ≡ Some at = rw pushed (slice_get-get_or (starts ++ at ∷ []) k at (omega (arith, same, count, length_push starts at)) ∙ ap Some (get_or_push starts at at k (count ∙ sym same))) in
-        and_some (slice_get rows k) (λ row. IsSomeAnd (slice_get later k) (λ runs. HoldsBoth case new row runs)) (get_or rows i d) found
-        (and_some (slice_get later k) (λ runs. HoldsBoth case new (get_or rows i d) runs) at value both)
-    | inr apart ↦
-        let old_row = some_and (slice_get rows k) (λ row. IsSomeAnd (slice_get starts k) (λ runs. HoldsBoth case old row runs)) (each k (omega (arith, inside, apart))) in
-        let old_at = some_and (slice_get starts k) (λ runs. HoldsBoth case old old_row.0 runs) old_row.2 in
-        let value : slice_get later k ≡ Some old_at.0 = rw pushed (slice_get_grown starts (at ∷ []) k old_at.0 old_at.1) in
-        and_some (slice_get rows k) (λ row. IsSomeAnd (slice_get later k) (λ runs. HoldsBoth case new row runs)) old_row.0 old_row.1
-        (and_some (slice_get later k) (λ runs. HoldsBoth case new old_row.0 runs) old_at.0 value (both_grown case old new old_row.0 old_at.0 extends old_at.2))
+      | inl same ↦
+          let found : slice_get rows k ≡ Some (get_or rows i d) = ap (λ (j : ℕ). slice_get rows j) same ∙ slice_get-get_or rows i d below in
+          let value : slice_get later k ≡ Some at = rw pushed (slice_get-get_or (starts ++ at ∷ []) k at (omega (arith, same, count, length_push starts at)) ∙ ap Some (get_or_push starts at at k (count ∙ sym same))) in
+          and_some (slice_get rows k) (λ row. IsSomeAnd (slice_get later k) (λ runs. HoldsBoth case new row runs)) (get_or rows i d) found
+          (and_some (slice_get later k) (λ runs. HoldsBoth case new (get_or rows i d) runs) at value both)
+      | inr apart ↦
+          let old_row = some_and (slice_get rows k) (λ row. IsSomeAnd (slice_get starts k) (λ runs. HoldsBoth case old row runs)) (each k (omega (arith, inside, apart))) in
+          let old_at = some_and (slice_get starts k) (λ runs. HoldsBoth case old old_row.0 runs) old_row.2 in
+          let value : slice_get later k ≡ Some old_at.0 = rw pushed (slice_get_grown starts (at ∷ []) k old_at.0 old_at.1) in
+          and_some (slice_get rows k) (λ row. IsSomeAnd (slice_get later k) (λ runs. HoldsBoth case new row runs)) old_row.0 old_row.1
+          (and_some (slice_get later k) (λ runs. HoldsBoth case new old_row.0 runs) old_at.0 value (both_grown case old new old_row.0 old_at.0 extends old_at.2))
     ]

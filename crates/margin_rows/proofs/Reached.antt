@@ -27,12 +27,12 @@ cut_reaches case used used' f i past cut reaches is_cut back along here =
     record {
       within = omega (arith, reaches.within, is_cut.within);
       senses = λ g step uses below. elim (back g uses) [
-        inl old ↦ reaches.senses g step old (omega (arith, below, is_cut.within))
-      | inr same ↦ let P : ℕ → Type 0 = λ h. SensesAt case h i step in subst P (sym same) (is_cut.senses step below)
+        | inl old ↦ reaches.senses g step old (omega (arith, below, is_cut.within))
+        | inr same ↦ let P : ℕ → Type 0 = λ h. SensesAt case h i step in subst P (sym same) (is_cut.senses step below)
       ];
       blind = λ step below all. elim (cases_lt step cut) [
-        inl under ↦ under
-      | inr past_cut ↦ absurd (is_cut.blind step past_cut (reaches.blind step below (λ g old. all g (along g old))) (all f here))
+        | inl under ↦ under
+        | inr past_cut ↦ absurd (is_cut.blind step past_cut (reaches.blind step below (λ g old. all g (along g old))) (all f here))
       ];
     }
 
@@ -55,13 +55,13 @@ reach_more case used used' reach f i cut reaches below is_cut back along here =
     record {
       count = length-set reach i cut ∙ reaches.count;
       each = λ j inside. elim (cases_eq j i) [
-        inl same ↦ let Q : ℕ → Type 0 = λ k. ReachesTo case (λ g. used' g k) k (get_or (set reach i cut) k 0) in
-          subst Q (sym same) (reaches_at case (λ g. used' g i) i (get_or (set reach i cut) i 0) cut (get_or-set_same reach i cut 0 (omega (arith, reaches.count, below)))
-          (cut_reaches case (λ g. used g i) (λ g. used' g i) f i (slice_index reach i) cut (reaches.each i below) is_cut
-          (λ g uses. elim (back g i uses) [ inl old ↦ inl old | inr p ↦ inr p.0 ]) (λ g old. along g i old) here))
-      | inr apart ↦ reaches_at case (λ g. used' g j) j (get_or (set reach i cut) j 0) (get_or reach j 0) (get_or-set_other reach i j cut 0 apart)
-          (other_reaches case (λ g. used g j) (λ g. used' g j) j (get_or reach j 0) (reaches.each j inside)
-          (λ g uses. elim (back g j uses) [ inl old ↦ old | inr p ↦ absurd (apart p.1) ]) (λ g old. along g j old))
+        | inl same ↦ let Q : ℕ → Type 0 = λ k. ReachesTo case (λ g. used' g k) k (get_or (set reach i cut) k 0) in
+            subst Q (sym same) (reaches_at case (λ g. used' g i) i (get_or (set reach i cut) i 0) cut (get_or-set_same reach i cut 0 (omega (arith, reaches.count, below)))
+            (cut_reaches case (λ g. used g i) (λ g. used' g i) f i (slice_index reach i) cut (reaches.each i below) is_cut
+            (λ g uses. elim (back g i uses) [ inl old ↦ inl old | inr p ↦ inr p.0 ]) (λ g old. along g i old) here))
+        | inr apart ↦ reaches_at case (λ g. used' g j) j (get_or (set reach i cut) j 0) (get_or reach j 0) (get_or-set_other reach i j cut 0 apart)
+            (other_reaches case (λ g. used g j) (λ g. used' g j) j (get_or reach j 0) (reaches.each j inside)
+            (λ g uses. elim (back g j uses) [ inl old ↦ old | inr p ↦ absurd (apart p.1) ]) (λ g old. along g j old))
       ];
     }
 
@@ -115,10 +115,10 @@ span_is_first case i past (Some span) reaches clear =
     record {
       ordered = omega (arith, clear.2, clear.3);
       inside = λ step low high. first_from case i step (omega (arith, high, clear.3, reaches.within))
-        (λ f used. reaches.senses f step used (omega (arith, high, clear.3))) (clears_up case i span.0 step low clear.1);
+          (λ f used. reaches.senses f step used (omega (arith, high, clear.3))) (clears_up case i span.0 step low clear.1);
       no_other = λ step first.
-        let parts = first_parts case i step first in
-        (at_least step parts.2, at_most step (reaches.blind step parts.0 parts.1));
+          let parts = first_parts case i step first in
+          (at_least step parts.2, at_most step (reaches.blind step parts.0 parts.1));
     }
   where
     at_least : (step : ℕ) → ClearsAt case i step → span.0 ≤ step
@@ -147,8 +147,8 @@ pub blind_more : (case : Case) (f i past reach : ℕ) → 0 < past → ((step : 
     → (step : ℕ) → past - 1 ≤ step → step < reach → SensesAt case f i step → ⊥
 blind_more case f i past reach some above here step low high senses =
     elim (cases_eq step (past - 1)) [
-      inl same ↦ here (let P : ℕ → Type 0 = λ k. SensesAt case f i k in subst P same senses)
-    | inr apart ↦ above step (omega (arith, some, low, apart)) high senses
+      | inl same ↦ here (let P : ℕ → Type 0 = λ k. SensesAt case f i k in subst P same senses)
+      | inr apart ↦ above step (omega (arith, some, low, apart)) high senses
     ]
 
 -- the highest step that senses the current: all below it do
@@ -169,10 +169,10 @@ term_step case terms k d reach place cut below is inside reaches is_cut =
     (subst S (sym is) (λ the_cut. reach_more case (λ f i. Contains (take k terms) (record { fault = f; relay = i })) (λ f i. Contains (take k terms ++ t ∷ []) (record { fault = f; relay = i })) reach t.fault t.relay cut
     reaches inside the_cut
     (λ g j listed. elim (member_append (take k terms) (t ∷ []) (record { fault = g; relay = j }) listed) [
-      inl old ↦ inl old
-    | inr new ↦ elim (member_cases t (record { fault = g; relay = j }) [] new) [
-        inl e ↦ inr (ap (λ (x : Term). x.fault) (sym e), ap (λ (x : Term). x.relay) (sym e))
-      | inr none ↦ absurd (member_none (record { fault = g; relay = j }) none)
+      | inl old ↦ inl old
+      | inr new ↦ elim (member_cases t (record { fault = g; relay = j }) [] new) [
+        | inl e ↦ inr (ap (λ (x : Term). x.fault) (sym e), ap (λ (x : Term). x.relay) (sym e))
+        | inr none ↦ absurd (member_none (record { fault = g; relay = j }) none)
       ]
     ])
     (λ g j old. append_left (take k terms) (t ∷ []) (record { fault = g; relay = j }) old)
@@ -194,12 +194,12 @@ row_step case terms rows k d reach place cut below is inside reaches is_cut =
     (subst S (sym is) (λ the_cut. reach_more case (UsedBy terms (take k rows)) (UsedBy terms (take k rows ++ t ∷ [])) reach t.fault t.backup cut
     reaches inside the_cut
     (λ g j used. elim used [
-      inl term ↦ inl (inl term)
-    | inr row ↦ elim (member_append (take k rows) (t ∷ []) (record { fault = g; backup = j; primary = row.0 }) row.1) [
-        inl old ↦ inl (inr (row.0, old))
-      | inr new ↦ elim (member_cases t (record { fault = g; backup = j; primary = row.0 }) [] new) [
-          inl e ↦ inr (ap (λ (x : Row). x.fault) (sym e), ap (λ (x : Row). x.backup) (sym e))
-        | inr none ↦ absurd (member_none (record { fault = g; backup = j; primary = row.0 }) none)
+      | inl term ↦ inl (inl term)
+      | inr row ↦ elim (member_append (take k rows) (t ∷ []) (record { fault = g; backup = j; primary = row.0 }) row.1) [
+        | inl old ↦ inl (inr (row.0, old))
+        | inr new ↦ elim (member_cases t (record { fault = g; backup = j; primary = row.0 }) [] new) [
+          | inl e ↦ inr (ap (λ (x : Row). x.fault) (sym e), ap (λ (x : Row). x.backup) (sym e))
+          | inr none ↦ absurd (member_none (record { fault = g; backup = j; primary = row.0 }) none)
         ]
       ]
     ])

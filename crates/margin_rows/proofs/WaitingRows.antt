@@ -63,9 +63,10 @@ pair_relays study pair listed =
     let behind = member_flat_map (pairs_behind study) (relay_numbers study) pair listed in
     let p = behind.0 in
     let mapped = member_map (λ b. record { backup = b; primary = p }) (filter (λ b. backs study b p) (relay_numbers study)) pair behind.2 in
-    let kept = member_filter (λ b. backs study b p) (relay_numbers study) mapped.0 mapped.1 in
-    (omega (arith, ap (λ (q : Pair). q.backup) mapped.2, member_number (length study.relays) mapped.0 kept.0),
-    omega (arith, ap (λ (q : Pair). q.primary) mapped.2, member_number (length study.relays) p behind.1))
+    let kept = member_filter (λ b. backs study b p) (relay_numbers study) mapped.0 mapped.1 in (
+      omega (arith, ap (λ (q : Pair). q.backup) mapped.2, member_number (length study.relays) mapped.0 kept.0),
+      omega (arith, ap (λ (q : Pair). q.primary) mapped.2, member_number (length study.relays) p behind.1),
+    )
 
 -- one pair more: it waits, or it does not
 pub waits_yes : (w : Pair → Bool) (g : Pair → Row) (ps : List Pair) (i : ℕ) (d : Pair) (old base new : List Row) → i < length ps → base ≡ old ++ map g (filter w (take i ps))

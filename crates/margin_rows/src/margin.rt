@@ -6,9 +6,8 @@ ghost use Rattle.margin_rows.specs.Case.{rows_in, AtRow, FitsCase};
 ghost use Rattle.margin_rows.specs.FirstBox.{IsInFirstBox};
 ghost use Rattle.margin_rows.specs.Margin.{interval_ps, least_ps, greatest_ps, margin, loose_margin, strict_margin, MeetsLoosely, MeetsStrictly};
 
-use coord_model::Choice;
-
 use crate::instance::Instance;
+use coord_model::Choice;
 
 /// The loose margin of a row in picoseconds: the backup at its upper end, the primary at its lower end.
 ///
@@ -73,7 +72,11 @@ fn set_times(inst: &Instance, choice: &Choice, row: u16) -> SetTimes
     ensures primary_small { (result.primary.0 < 2 ^ 54) × (result.primary.1 < 2 ^ 54) }
 {
     let at = inst.rows()[usize::from(row)];
-    let (backup, primary) = inst.row_times(row, choice.pickup[usize::from(at.backup)], choice.pickup[usize::from(at.primary)]);
+    let (backup, primary) = inst.row_times(
+        row,
+        choice.pickup[usize::from(at.backup)],
+        choice.pickup[usize::from(at.primary)],
+    );
     SetTimes {
         backup: at_dial(backup, dial(inst, choice, at.backup)),
         primary: at_dial(primary, dial(inst, choice, at.primary)),

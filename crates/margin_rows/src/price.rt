@@ -2,14 +2,13 @@
 ghost use Rattle.std.specs.Prelude.{◌≡◌, ◌*◌, ◌^◌, ◌<◌, ◌≤◌, length};
 ghost use Rattle.coord_model.specs.Choice.{choice_data};
 ghost use Rattle.coord_model.specs.Cost.{CostsAtLeast, CostsAtMost};
-ghost use Rattle.margin_rows.specs.Case.{terms_in, AtTerm};
+ghost use Rattle.margin_rows.specs.Case.{terms_in, AtTerm, FitsCase};
 ghost use Rattle.margin_rows.specs.FirstBox.{IsInFirstBox};
 ghost use Rattle.margin_rows.specs.Price.{cost_of, lower_cost_of, greatest_sum, least_sum, greatest_part, least_part};
 
-use coord_model::Choice;
-
 use crate::instance::Instance;
 use crate::margin::dial;
+use coord_model::Choice;
 
 /// The picoseconds of a microsecond.
 const PICOSECONDS: u128 = 1_000_000;
@@ -45,6 +44,7 @@ fn sums(inst: &Instance, choice: &Choice) -> (u128, u128)
     ensures greatest { result.1 ≡ greatest_sum inst.now (choice_data choice.now) }
     ensures least_small { result.0 ≤ 24576 * 16500000000000000000 }
     ensures greatest_small { result.1 ≤ 24576 * 16500000000000000000 }
+    ensures fits { FitsCase inst.now }
 {
     let mut least: u128 = 0;
     let mut greatest: u128 = 0;

@@ -7,13 +7,11 @@ ghost use Rattle.margin_rows.specs.Case.{rows_in, terms_in, HasWholeExponent};
 ghost use Rattle.margin_rows.specs.Tables.{cell, cells, Extends, HoldsRun, HoldsRuns, HoldTermRuns, HoldRowRuns};
 ghost use Rattle.margin_rows.specs.Times.{relay_time, ends};
 
-use std::alloc::Global;
-
-use coord_model::{NoMemory, Relay, Row, Study, Term};
-
 use crate::enclose::enclose;
 use crate::given::Given;
 use crate::spans::{plug, senses};
+use coord_model::{NoMemory, Relay, Row, Study, Term};
+use std::alloc::Global;
 
 /// Where the times of a row's two relays begin.
 #[derive(Clone, Copy)]

@@ -17,10 +17,10 @@ waits-requires-clause-primary c = (listed_relays c.args.given.now.study c.args.p
 pub loop-pair-preserved : goal.loop-pair-preserved
 loop-pair-preserved c =
     elim c.if-waits.branch [
-      then-waits+in_ok-push w ↦ waits_yes (waits_at c.args.given.now c.args.fault) (row_from c.args.fault) c.args.pairs.now c.loop-pair.pair-index _ c.args.rows.now.items c.loop-pair.rows.items c.if-waits.rows.items
-        c.loop-pair-test.true c.loop-pair.invariant (sym c.waits.ensures ∙ w.if-waits.true) (ap (λ v. v.items) w.rows-is ∙ w.in_ok-push.ensures.items)
-    | else-waits w ↦ waits_no (waits_at c.args.given.now c.args.fault) (row_from c.args.fault) c.args.pairs.now c.loop-pair.pair-index (record { backup = 0; primary = 0 }) c.args.rows.now.items c.loop-pair.rows.items c.if-waits.rows.items
-        c.loop-pair-test.true c.loop-pair.invariant (sym c.waits.ensures ∙ w.if-waits.false) (ap (λ v. v.items) w.rows-is)
+      | then-waits+in_ok-push w ↦ waits_yes (waits_at c.args.given.now c.args.fault) (row_from c.args.fault) c.args.pairs.now c.loop-pair.pair-index _ c.args.rows.now.items c.loop-pair.rows.items c.if-waits.rows.items
+          c.loop-pair-test.true c.loop-pair.invariant (sym c.waits.ensures ∙ w.if-waits.true) (ap (λ v. v.items) w.rows-is ∙ w.in_ok-push.ensures.items)
+      | else-waits w ↦ waits_no (waits_at c.args.given.now c.args.fault) (row_from c.args.fault) c.args.pairs.now c.loop-pair.pair-index (record { backup = 0; primary = 0 }) c.args.rows.now.items c.loop-pair.rows.items c.if-waits.rows.items
+          c.loop-pair-test.true c.loop-pair.invariant (sym c.waits.ensures ∙ w.if-waits.false) (ap (λ v. v.items) w.rows-is)
     ]
 
 pub returns : goal.returns

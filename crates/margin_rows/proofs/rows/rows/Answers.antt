@@ -11,6 +11,8 @@ loop-fault-preserved c = record {
 }
 
 pub returns-then-len-clause-refused : goal.returns-then-len-clause-refused
-returns-then-len-clause-refused c =
-    (refl, too_many c.args.given.now c.loop-fault.fault 4096 c.loop-fault.rows.items c.push_rows_at.new.rows.items (omega (arith, ap (λ (s : StudyData). length s.faults) c.study.ensures.value)) c.loop-fault.invariant.so_far
-    c.in_ok-push_rows_at.ensures (omega (arith, c.if-len.true, c.len.ensures, c.push_rows_at.new.rows.ok.0)))
+returns-then-len-clause-refused c = (
+  refl,
+  too_many c.args.given.now c.loop-fault.fault 4096 c.loop-fault.rows.items c.push_rows_at.new.rows.items (omega (arith, ap (λ (s : StudyData). length s.faults) c.study.ensures.value)) c.loop-fault.invariant.so_far
+      c.in_ok-push_rows_at.ensures (omega (arith, c.if-len.true, c.len.ensures, c.push_rows_at.new.rows.ok.0)),
+)

@@ -9,5 +9,5 @@ loop-row-preserved c = record {
   extends = extends_again c.args.runs.now.times.items c.loop-row.runs.times.items c.runs_of.new.runs.times.items c.loop-row.invariant.extends c.in_ok-runs_of.ensures.extends;
   count = omega (arith, ap (λ xs. length xs) c.in_ok-push.ensures.items, length_push c.loop-row.starts.items c.in_ok-runs_of.field-0, c.loop-row.invariant.count);
   each = row_runs_more c.args.given.now c.args.rows.now c.loop-row.runs.times.items c.runs_of.new.runs.times.items c.loop-row.starts.items c.push.new.self.items c.loop-row.row-index c.in_ok-runs_of.field-0 (record { fault = 0; backup = 0; primary = 0 })
-    c.loop-row-test.true c.loop-row.invariant.count c.in_ok-push.ensures.items c.in_ok-runs_of.ensures.extends c.loop-row.invariant.each (c.in_ok-runs_of.ensures.backup, c.in_ok-runs_of.ensures.primary);
+      c.loop-row-test.true c.loop-row.invariant.count c.in_ok-push.ensures.items c.in_ok-runs_of.ensures.extends c.loop-row.invariant.each (c.in_ok-runs_of.ensures.backup, c.in_ok-runs_of.ensures.primary);
 }

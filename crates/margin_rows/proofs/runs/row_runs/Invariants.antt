@@ -10,5 +10,5 @@ invariant-loop-row l = record {
   extends : Extends l.initial.runs.times.items l.runs.times.items;
   count : length l.starts.items ≡ l.row-index;
   each : (k : ℕ) → k < l.row-index → IsSomeAnd (slice_get l.rows k) (λ row. IsSomeAnd (slice_get l.starts.items k)
-    (λ at. HoldsRun l.given l.runs.times.items row.fault row.backup at.backup × HoldsRun l.given l.runs.times.items row.fault row.primary at.primary));
+      (λ at. HoldsRun l.given l.runs.times.items row.fault row.backup at.backup × HoldsRun l.given l.runs.times.items row.fault row.primary at.primary));
 }

@@ -28,8 +28,8 @@ returns-clause-run c =
     let case = c.args.given.now in
     let study = study_data c.study-study.result.now in
     let found : slice_get case.study.relays c.args.relay ≡ Some c.index-2.result.now =
-        relay_there case study c.args.relay c.index-2.result.now c.study-study.ensures.value (omega (arith, c.requires.relay, ap (λ (s : StudyData). length s.relays) c.study-study.ensures.value))
-        (c.index-2.ensures ∙ ap (λ (k : ℕ). get_or study.relays k c.index-2.result.now) c.from-3.ensures) in
+    relay_there case study c.args.relay c.index-2.result.now c.study-study.ensures.value (omega (arith, c.requires.relay, ap (λ (s : StudyData). length s.relays) c.study-study.ensures.value))
+    (c.index-2.ensures ∙ ap (λ (k : ℕ). get_or study.relays k c.index-2.result.now) c.from-3.ensures) in
     run_made case study c.args.runs.now.times.items c.push_run.new.times.items c.args.fault c.args.relay c.len-start.result c.amps.result c.index-2.result.now c.study-study.ensures.value found c.amps.ensures
     (omega (arith, c.len-start.ensures, c.args.runs.now.times.ok.0)) c.in_ok-push_run.ensures
 
@@ -41,9 +41,9 @@ returns-clause-runs c =
     let width : c.len.result ≡ relays = omega (arith, c.len.ensures, c.study-study.result.now.relays.ok.0, ap (λ (s : StudyData). length s.relays) c.study-study.ensures.value) in
     let place = place_is c.from.result c.len.result c.from-2.result c.args.fault c.args.relay relays c.from.ensures width c.from-2.ensures in
     let found : slice_get case.study.relays c.args.relay ≡ Some c.index-2.result.now =
-        relay_there case study c.args.relay c.index-2.result.now c.study-study.ensures.value (omega (arith, c.requires.relay, ap (λ (s : StudyData). length s.relays) c.study-study.ensures.value))
-        (c.index-2.ensures ∙ ap (λ (k : ℕ). get_or study.relays k c.index-2.result.now) c.from-3.ensures) in
+    relay_there case study c.args.relay c.index-2.result.now c.study-study.ensures.value (omega (arith, c.requires.relay, ap (λ (s : StudyData). length s.relays) c.study-study.ensures.value))
+    (c.index-2.ensures ∙ ap (λ (k : ℕ). get_or study.relays k c.index-2.result.now) c.from-3.ensures) in
     let run = run_made case study c.args.runs.now.times.items c.push_run.new.times.items c.args.fault c.args.relay c.len-start.result c.amps.result c.index-2.result.now c.study-study.ensures.value found c.amps.ensures
-        (omega (arith, c.len-start.ensures, c.args.runs.now.times.ok.0)) c.in_ok-push_run.ensures in
+    (omega (arith, c.len-start.ensures, c.args.runs.now.times.ok.0)) c.in_ok-push_run.ensures in
     runs_more case c.args.runs.now _ c.args.fault c.args.relay c.len-start.result c.requires.runs c.requires.fault c.requires.relay
     (cells study c.index-2.result.now c.amps.result, c.in_ok-push_run.ensures) (ap (λ (k : ℕ). set c.args.runs.now.starts.items k (Some c.len-start.result)) place) run

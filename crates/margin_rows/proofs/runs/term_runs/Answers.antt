@@ -15,5 +15,5 @@ loop-term-preserved c = record {
   runs = c.in_ok-run_of.ensures.runs;
   count = omega (arith, ap (λ xs. length xs) c.in_ok-push.ensures.items, length_push c.loop-term.starts.items c.in_ok-run_of.field-0, c.loop-term.invariant.count);
   each = term_runs_more c.args.given.now c.args.terms.now c.loop-term.runs.times.items c.run_of.new.runs.times.items c.loop-term.starts.items c.push.new.self.items c.loop-term.term-index c.in_ok-run_of.field-0 (record { fault = 0; relay = 0 })
-    c.loop-term-test.true c.loop-term.invariant.count c.in_ok-push.ensures.items c.in_ok-run_of.ensures.extends c.loop-term.invariant.each c.in_ok-run_of.ensures.run;
+      c.loop-term-test.true c.loop-term.invariant.count c.in_ok-push.ensures.items c.in_ok-run_of.ensures.extends c.loop-term.invariant.each c.in_ok-run_of.ensures.run;
 }

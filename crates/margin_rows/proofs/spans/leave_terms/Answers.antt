@@ -18,7 +18,6 @@ sensing-requires-clause-fault c = (term_at c.args.given.now c.args.terms.now c.l
 pub sensing-requires-clause-relay : goal.sensing-requires-clause-relay
 sensing-requires-clause-relay c = (term_at c.args.given.now c.args.terms.now c.loop-term.term-index (record { fault = 0; relay = 0 }) c.requires.terms c.loop-term-test.true).relay
 
-
 pub bounds-reach-place-in-loop-term : goal.bounds-reach-place-in-loop-term
 bounds-reach-place-in-loop-term c =
     let facts = term_at c.args.given.now c.args.terms.now c.loop-term.term-index (record { fault = 0; relay = 0 }) c.requires.terms c.loop-term-test.true in

@@ -16,7 +16,7 @@ overflow_add-runs c =
     let holds : FitsCase case × AreTablesOf case tables = subst F c.self.view_is c.self.invariant in
     let at = c.index-runs.result.now in
     let times = row_times_are case tables c.args.row c.args.backup_step c.args.primary_step at holds.0 holds.1 c.requires.row
-        (c.index-runs.ensures ∙ ap (λ (k : ℕ). get_or tables.row_runs.items k at) c.from.ensures) c.requires.backup_step c.requires.primary_step in
+    (c.index-runs.ensures ∙ ap (λ (k : ℕ). get_or tables.row_runs.items k at) c.from.ensures) c.requires.backup_step c.requires.primary_step in
     let within = slice_get_within tables.times.items (at.backup + c.args.backup_step) _ times.backup in
     omega (arith, within, c.from-2.ensures, tables.times.ok.0, tables.times.small)
 
@@ -28,7 +28,7 @@ index-backup-requires c =
     let holds : FitsCase case × AreTablesOf case tables = subst F c.self.view_is c.self.invariant in
     let at = c.index-runs.result.now in
     let times = row_times_are case tables c.args.row c.args.backup_step c.args.primary_step at holds.0 holds.1 c.requires.row
-        (c.index-runs.ensures ∙ ap (λ (k : ℕ). get_or tables.row_runs.items k at) c.from.ensures) c.requires.backup_step c.requires.primary_step in
+    (c.index-runs.ensures ∙ ap (λ (k : ℕ). get_or tables.row_runs.items k at) c.from.ensures) c.requires.backup_step c.requires.primary_step in
     let within = slice_get_within tables.times.items (at.backup + c.args.backup_step) _ times.backup in
     omega (arith, within, c.from-2.ensures, tables.times.ok.0)
 
@@ -40,7 +40,7 @@ overflow_add-runs-2 c =
     let holds : FitsCase case × AreTablesOf case tables = subst F c.self.view_is c.self.invariant in
     let at = c.index-runs.result.now in
     let times = row_times_are case tables c.args.row c.args.backup_step c.args.primary_step at holds.0 holds.1 c.requires.row
-        (c.index-runs.ensures ∙ ap (λ (k : ℕ). get_or tables.row_runs.items k at) c.from.ensures) c.requires.backup_step c.requires.primary_step in
+    (c.index-runs.ensures ∙ ap (λ (k : ℕ). get_or tables.row_runs.items k at) c.from.ensures) c.requires.backup_step c.requires.primary_step in
     let within = slice_get_within tables.times.items (at.primary + c.args.primary_step) _ times.primary in
     omega (arith, within, c.from-3.ensures, tables.times.ok.0, tables.times.small)
 
@@ -52,7 +52,7 @@ index-primary-requires c =
     let holds : FitsCase case × AreTablesOf case tables = subst F c.self.view_is c.self.invariant in
     let at = c.index-runs.result.now in
     let times = row_times_are case tables c.args.row c.args.backup_step c.args.primary_step at holds.0 holds.1 c.requires.row
-        (c.index-runs.ensures ∙ ap (λ (k : ℕ). get_or tables.row_runs.items k at) c.from.ensures) c.requires.backup_step c.requires.primary_step in
+    (c.index-runs.ensures ∙ ap (λ (k : ℕ). get_or tables.row_runs.items k at) c.from.ensures) c.requires.backup_step c.requires.primary_step in
     let within = slice_get_within tables.times.items (at.primary + c.args.primary_step) _ times.primary in
     omega (arith, within, c.from-3.ensures, tables.times.ok.0)
 
@@ -64,7 +64,7 @@ returns-clause-backup c =
     let holds : FitsCase case × AreTablesOf case tables = subst F c.self.view_is c.self.invariant in
     let at = c.index-runs.result.now in
     let times = row_times_are case tables c.args.row c.args.backup_step c.args.primary_step at holds.0 holds.1 c.requires.row
-        (c.index-runs.ensures ∙ ap (λ (k : ℕ). get_or tables.row_runs.items k at) c.from.ensures) c.requires.backup_step c.requires.primary_step in
+    (c.index-runs.ensures ∙ ap (λ (k : ℕ). get_or tables.row_runs.items k at) c.from.ensures) c.requires.backup_step c.requires.primary_step in
     let read = c.index-backup.ensures ∙ ap (λ (k : ℕ). get_or tables.times.items (at.backup + k) c.index-backup.result.now) c.from-2.ensures in
     if_some (slice_get (rows_in case) c.args.row) (λ r. c.index-backup.result.now ≡ ends (time_at case r.fault r.backup c.args.backup_step)) times.here times.found
     (read ∙ get_or_from_slice_get tables.times.items (at.backup + c.args.backup_step) (ends (time_at case times.here.fault times.here.backup c.args.backup_step)) c.index-backup.result.now times.backup)
@@ -77,7 +77,7 @@ returns-clause-backup_ordinary c =
     let holds : FitsCase case × AreTablesOf case tables = subst F c.self.view_is c.self.invariant in
     let at = c.index-runs.result.now in
     let times = row_times_are case tables c.args.row c.args.backup_step c.args.primary_step at holds.0 holds.1 c.requires.row
-        (c.index-runs.ensures ∙ ap (λ (k : ℕ). get_or tables.row_runs.items k at) c.from.ensures) c.requires.backup_step c.requires.primary_step in
+    (c.index-runs.ensures ∙ ap (λ (k : ℕ). get_or tables.row_runs.items k at) c.from.ensures) c.requires.backup_step c.requires.primary_step in
     if_some (slice_get (rows_in case) c.args.row) (λ r. IsOrdinary (time_at case r.fault r.backup c.args.backup_step)) times.here times.found times.backup_ordinary
 
 pub returns-clause-primary : goal.returns-clause-primary
@@ -88,7 +88,7 @@ returns-clause-primary c =
     let holds : FitsCase case × AreTablesOf case tables = subst F c.self.view_is c.self.invariant in
     let at = c.index-runs.result.now in
     let times = row_times_are case tables c.args.row c.args.backup_step c.args.primary_step at holds.0 holds.1 c.requires.row
-        (c.index-runs.ensures ∙ ap (λ (k : ℕ). get_or tables.row_runs.items k at) c.from.ensures) c.requires.backup_step c.requires.primary_step in
+    (c.index-runs.ensures ∙ ap (λ (k : ℕ). get_or tables.row_runs.items k at) c.from.ensures) c.requires.backup_step c.requires.primary_step in
     let read = c.index-primary.ensures ∙ ap (λ (k : ℕ). get_or tables.times.items (at.primary + k) c.index-primary.result.now) c.from-3.ensures in
     if_some (slice_get (rows_in case) c.args.row) (λ r. c.index-primary.result.now ≡ ends (time_at case r.fault r.primary c.args.primary_step)) times.here times.found
     (read ∙ get_or_from_slice_get tables.times.items (at.primary + c.args.primary_step) (ends (time_at case times.here.fault times.here.primary c.args.primary_step)) c.index-primary.result.now times.primary)
@@ -101,5 +101,5 @@ returns-clause-primary_ordinary c =
     let holds : FitsCase case × AreTablesOf case tables = subst F c.self.view_is c.self.invariant in
     let at = c.index-runs.result.now in
     let times = row_times_are case tables c.args.row c.args.backup_step c.args.primary_step at holds.0 holds.1 c.requires.row
-        (c.index-runs.ensures ∙ ap (λ (k : ℕ). get_or tables.row_runs.items k at) c.from.ensures) c.requires.backup_step c.requires.primary_step in
+    (c.index-runs.ensures ∙ ap (λ (k : ℕ). get_or tables.row_runs.items k at) c.from.ensures) c.requires.backup_step c.requires.primary_step in
     if_some (slice_get (rows_in case) c.args.row) (λ r. IsOrdinary (time_at case r.fault r.primary c.args.primary_step)) times.here times.found times.primary_ordinary

@@ -16,7 +16,7 @@ overflow_add-start c =
     let holds : FitsCase case × AreTablesOf case tables = subst F c.self.view_is c.self.invariant in
     let start = c.index-start.result.now in
     let time = term_time_is case tables c.args.term c.args.step start holds.0 holds.1 c.requires.term
-        (sym (number_read tables.term_runs.items c.from.result c.args.term start c.from.ensures (omega (arith, holds.1.term_runs.count, c.requires.term)) c.index-start.ensures)) c.requires.step in
+    (sym (number_read tables.term_runs.items c.from.result c.args.term start c.from.ensures (omega (arith, holds.1.term_runs.count, c.requires.term)) c.index-start.ensures)) c.requires.step in
     let within = slice_get_within tables.times.items (start + c.args.step) _ time.time in
     omega (arith, within, c.from-2.ensures, tables.times.ok.0, tables.times.small)
 
@@ -28,7 +28,7 @@ index-requires c =
     let holds : FitsCase case × AreTablesOf case tables = subst F c.self.view_is c.self.invariant in
     let start = c.index-start.result.now in
     let time = term_time_is case tables c.args.term c.args.step start holds.0 holds.1 c.requires.term
-        (sym (number_read tables.term_runs.items c.from.result c.args.term start c.from.ensures (omega (arith, holds.1.term_runs.count, c.requires.term)) c.index-start.ensures)) c.requires.step in
+    (sym (number_read tables.term_runs.items c.from.result c.args.term start c.from.ensures (omega (arith, holds.1.term_runs.count, c.requires.term)) c.index-start.ensures)) c.requires.step in
     let within = slice_get_within tables.times.items (start + c.args.step) _ time.time in
     omega (arith, within, c.from-2.ensures, tables.times.ok.0)
 
@@ -40,7 +40,7 @@ returns-clause-exact c =
     let holds : FitsCase case × AreTablesOf case tables = subst F c.self.view_is c.self.invariant in
     let start = c.index-start.result.now in
     let time = term_time_is case tables c.args.term c.args.step start holds.0 holds.1 c.requires.term
-        (sym (number_read tables.term_runs.items c.from.result c.args.term start c.from.ensures (omega (arith, holds.1.term_runs.count, c.requires.term)) c.index-start.ensures)) c.requires.step in
+    (sym (number_read tables.term_runs.items c.from.result c.args.term start c.from.ensures (omega (arith, holds.1.term_runs.count, c.requires.term)) c.index-start.ensures)) c.requires.step in
     let read = c.index.ensures ∙ ap (λ (k : ℕ). get_or tables.times.items (start + k) c.index.result.now) c.from-2.ensures in
     if_some (slice_get (terms_in case) c.args.term) (λ t. c.index.result.now ≡ ends (time_at case t.fault t.relay c.args.step)) time.here time.found
     (read ∙ get_or_from_slice_get tables.times.items (start + c.args.step) (ends (time_at case time.here.fault time.here.relay c.args.step)) c.index.result.now time.time)
@@ -53,5 +53,5 @@ returns-clause-ordinary c =
     let holds : FitsCase case × AreTablesOf case tables = subst F c.self.view_is c.self.invariant in
     let start = c.index-start.result.now in
     let time = term_time_is case tables c.args.term c.args.step start holds.0 holds.1 c.requires.term
-        (sym (number_read tables.term_runs.items c.from.result c.args.term start c.from.ensures (omega (arith, holds.1.term_runs.count, c.requires.term)) c.index-start.ensures)) c.requires.step in
+    (sym (number_read tables.term_runs.items c.from.result c.args.term start c.from.ensures (omega (arith, holds.1.term_runs.count, c.requires.term)) c.index-start.ensures)) c.requires.step in
     if_some (slice_get (terms_in case) c.args.term) (λ t. IsOrdinary (time_at case t.fault t.relay c.args.step)) time.here time.found time.ordinary
