@@ -1,15 +1,13 @@
 -- Settings of the first box: their times are enclosed, and what follows for allowed settings.
 use Rattle.std.specs.Prelude.{slice_get, slice_index}
-use Rattle.std.proofs.Common.{◌≡◌, ℕ, ◌+◌, ◌*◌, ◌<◌, ◌≤◌, List, [], ◌∷◌, zero, suc, length, Some, None, Option, arith, refl, sym, ap, ◌∙◌, ◌⊎◌, inl, inr, subst, get_or}
+use Rattle.std.proofs.Common.{◌≡◌, ℕ, ◌<◌, List, [], ◌∷◌, zero, suc, length, Some, None, Option, arith, refl, inl, get_or}
 use Rattle.std.proofs.lemmas.List.Elements.{Contains-get_or}
-use Rattle.std.proofs.lemmas.Option.{slice_get-get_or, slice_get_within, get_or_from_slice_get}
 use Rattle.std.specs.List.{All, Contains}
 use Rattle.std.specs.Option.{IsSomeAnd, IfSome}
-use Rattle.coord_model.specs.Allowed.{IsAllowed, IsSensible, IsUsed, KeepsInterval, AreOnSteps, IsOnSteps}
+use Rattle.coord_model.specs.Allowed.{IsAllowed, IsSensible, IsUsed, KeepsInterval, IsOnSteps}
 use Rattle.coord_model.specs.Choice.{Settings}
 use Rattle.coord_model.specs.declared.study.Relay.{Relay}
 use Rattle.coord_model.specs.declared.study.Row.{Row}
-use Rattle.coord_model.specs.declared.study.Term.{Term}
 use Rattle.margin_rows.specs.Case.{Case, FitsCase, rows_in, terms_in}
 use Rattle.margin_rows.specs.FirstBox.{IsFirstStep, IsInFirstBox}
 use Rattle.margin_rows.specs.Margin.{MeetsLoosely, MeetsStrictly}

@@ -1,15 +1,14 @@
 -- The cost of settings from the ends of the enclosures, against every estimate.
-use Rattle.std.proofs.Common.{◌≡◌, ℕ, ◌+◌, ◌*◌, ◌^◌, ◌/◌, ◌<◌, ◌≤◌, List, [], ◌∷◌, arith, refl, sym, ap, ◌∙◌}
+use Rattle.std.proofs.Common.{ℕ, ◌+◌, ◌*◌, ◌^◌, ◌/◌, ◌≤◌, List, [], ◌∷◌, arith}
 use Rattle.std.specs.Prelude.{slice_index}
 use Rattle.std.specs.List.{sum_by, All}
 use Rattle.std.specs.Int.{div_ceil}
-use Rattle.std.proofs.Math.Nat.{mul-le-mul_left, mul-le-mul_right, le_of_mul-le-mul_left}
+use Rattle.std.proofs.Math.Nat.{mul-le-mul_left, mul-le-mul_right}
 use Rattle.std.proofs.lemmas.List.Elements.{All-head, All-tail}
 use Rattle.std.proofs.lemmas.List.Sums.{sum_by-cons}
-use Rattle.coord_model.specs.Allowed.{IsOverTime, IsUnderTime, dial_of}
+use Rattle.coord_model.specs.Allowed.{dial_of}
 use Rattle.coord_model.specs.Choice.{Settings}
 use Rattle.coord_model.specs.Cost.{CostsAtLeast, CostsAtMost, weight_of, weighted_sum}
-use Rattle.coord_model.specs.declared.study.Term.{Term}
 use Rattle.margin_rows.specs.Case.{Case, terms_in}
 use Rattle.margin_rows.specs.Margin.{time_of}
 use Rattle.margin_rows.specs.Price.{cost_of, lower_cost_of, greatest_sum, least_sum}

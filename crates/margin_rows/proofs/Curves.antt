@@ -1,16 +1,16 @@
 -- The enclosure of a curve with a whole exponent: its ends are under and over the curve's time, and ordinary numbers.
-use Rattle.std.proofs.Common.{◌≡◌, ◌≢◌, ℕ, ◌+◌, ◌-◌, ◌*◌, ◌/◌, ◌^◌, ◌<◌, ◌≤◌, arith, refl, sym, ap, ◌∙◌, ◌⊎◌, inl, inr, lit<, lit≤}
-use Rattle.std.proofs.Math.Nat.{mul_comm, mul-le-mul_left, mul-le-mul_right, pow-lt-pow_left, one-le-pow, pow-suc, pow-zero}
+use Rattle.std.proofs.Common.{◌≡◌, ℕ, ◌+◌, ◌-◌, ◌*◌, ◌/◌, ◌^◌, ◌<◌, ◌≤◌, arith, refl, ap, ◌∙◌, inl, inr, lit≤}
+use Rattle.std.proofs.Math.Nat.{mul-le-mul_right, pow-suc, pow-zero}
 use Rattle.std.proofs.lemmas.Nat.{mul-le, le-div}
 use Rattle.std.proofs.lemmas.Bool.{cases_lt}
 use Rattle.std.specs.Int.{div_ceil}
-use Rattle.coord_model.specs.Enclosure.{Enclosure, IsEnclosable, whole_enclosure, constant_ns}
+use Rattle.coord_model.specs.Enclosure.{IsEnclosable, whole_enclosure}
 use Rattle.coord_model.specs.Form.{form_of, form_with}
 use Rattle.coord_model.specs.Time.{Multiple, excess, IsUnder, IsOver}
 use Rattle.coord_model.specs.declared.curve.CurveForm.{CurveForm}
 use Rattle.coord_model.specs.declared.curve.CurveName.{CurveName}
 use Rattle.coord_model.specs.declared.curve.CurveName.TheVariants.{IecA, IecB, IecC, IeeeMi, IeeeVi, IeeeEi}
-use Rattle.margin_rows.specs.Times.{curve_time, root_of, IsOrdinary}
+use Rattle.margin_rows.specs.Times.{curve_time, IsOrdinary}
 use Rattle.margin_rows.proofs.Division.{floor_le, ceil_ge, ceil_near, floor_le_ceil}
 
 -- with a whole exponent the enclosure is a quotient, rounded down and up

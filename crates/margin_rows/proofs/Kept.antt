@@ -1,5 +1,5 @@
 -- Strictly met rows keep the coordination interval, and rows that keep it are loosely met.
-use Rattle.std.proofs.Common.{◌≡◌, ℕ, ◌+◌, ◌*◌, ◌^◌, ◌<◌, ◌≤◌, Some, arith, refl, sym, ap, ◌∙◌}
+use Rattle.std.proofs.Common.{◌≡◌, ℕ, ◌+◌, ◌*◌, ◌^◌, ◌≤◌, Some, arith}
 use Rattle.std.specs.Prelude.{slice_get, slice_index}
 use Rattle.std.proofs.Math.Nat.{mul-le-mul_left, mul-le-mul_right, le_of_mul-le-mul_left}
 use Rattle.coord_model.specs.Allowed.{IsOverTime, IsUnderTime, KeepsInterval, dial_of}
@@ -10,8 +10,7 @@ use Rattle.coord_model.specs.Time.{sensed_multiple, capped, IsUnder, IsOver}
 use Rattle.coord_model.specs.declared.study.Relay.{Relay}
 use Rattle.coord_model.specs.declared.study.Row.{Row}
 use Rattle.margin_rows.specs.Case.{Case}
-use Rattle.margin_rows.specs.Margin.{time_of, MeetsLoosely, MeetsStrictly, interval_ps}
-use Rattle.margin_rows.specs.Times.{time_at}
+use Rattle.margin_rows.specs.Margin.{time_of, MeetsLoosely, MeetsStrictly}
 use Rattle.margin_rows.proofs.Separated.{separated}
 use Rattle.margin_rows.proofs.Timed.{IsEnclosed, curve_some}
 

@@ -1,10 +1,9 @@
 -- The terms and rows of a case name faults and relays of its study.
-use Rattle.std.specs.Prelude.{◌&&◌, nat_lt, slice_get}
-use Rattle.std.proofs.Common.{◌≡◌, ℕ, ◌<◌, ◌≤◌, Bool, true, false, List, length, Some, None, Option, arith, refl, sym, ap, ◌∙◌, ◌⊎◌, inl, inr, subst, get_or}
+use Rattle.std.proofs.Common.{◌≡◌, ℕ, ◌<◌, true, List, length, inl, inr, subst, get_or}
 use Rattle.std.proofs.lemmas.List.Elements.{Contains-get_or}
-use Rattle.std.specs.List.{Contains, All, filter}
+use Rattle.std.specs.List.{Contains, filter}
 use Rattle.coord_model.specs.Allowed.{IsUsed}
-use Rattle.coord_model.specs.Rows.{amps_at, is_primary, waits, backs, terms_of, terms_at, rows_of, rows_at, rows_behind, relay_numbers, fault_numbers}
+use Rattle.coord_model.specs.Rows.{is_primary, waits, terms_at, rows_at, rows_behind, relay_numbers, fault_numbers}
 use Rattle.coord_model.specs.declared.study.Row.{Row}
 use Rattle.coord_model.specs.declared.study.Term.{Term}
 use Rattle.margin_rows.specs.Case.{Case, rows_in, terms_in}

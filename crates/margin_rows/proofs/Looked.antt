@@ -1,16 +1,15 @@
 -- Where the times of an instance's rows and terms stand.
 use Rattle.std.specs.Prelude.{slice_get, slice_index}
-use Rattle.std.specs.Option.{IfSome, IsSomeAnd}
-use Rattle.std.specs.List.{Contains}
-use Rattle.std.proofs.Common.{◌≡◌, ℕ, ◌+◌, ◌<◌, ◌≤◌, List, length, get_or, Some, None, Option, arith, refl, sym, ap, ◌∙◌, subst, inl, inr}
-use Rattle.std.proofs.lemmas.Option.{slice_get-get_or, slice_get_within, get_or_from_slice_get}
+use Rattle.std.specs.Option.{IsSomeAnd}
+use Rattle.std.proofs.Common.{◌≡◌, ℕ, ◌+◌, ◌<◌, List, length, get_or, Some, arith, sym, ◌∙◌, subst}
+use Rattle.std.proofs.lemmas.Option.{get_or_from_slice_get}
 use Rattle.coord_model.specs.Allowed.{IsUsed, Senses}
 use Rattle.coord_model.specs.Rows.{amps_at}
 use Rattle.coord_model.specs.declared.study.Row.{Row}
 use Rattle.coord_model.specs.declared.study.Term.{Term}
 use Rattle.margin_rows.specs.Case.{Case, FitsCase, rows_in, terms_in, AtRow, AtTerm}
 use Rattle.margin_rows.specs.FirstBox.{IsFirstStep}
-use Rattle.margin_rows.specs.Tables.{IsTimed, HoldsRun, AreTablesOf}
+use Rattle.margin_rows.specs.Tables.{HoldsRun, AreTablesOf}
 use Rattle.margin_rows.specs.Times.{time_at, ends, IsOrdinary}
 use Rattle.margin_rows.specs.declared.runs.RowRuns.{RowRuns}
 use Rattle.margin_rows.specs.declared.tables.Tables.{Tables}
@@ -19,7 +18,7 @@ use Rattle.margin_rows.proofs.Listed.{backup_used, primary_used, term_used}
 use Rattle.margin_rows.proofs.Placed.{found_listed, of_some}
 use Rattle.margin_rows.proofs.Places.{some_and, and_some}
 use Rattle.margin_rows.proofs.Ran.{HoldsBoth}
-use Rattle.margin_rows.proofs.Timed.{IsTimedAt, enclosed}
+use Rattle.margin_rows.proofs.Timed.{enclosed}
 
 -- a step of the first box has its time in a run
 run_time : (case : Case) (times : List (ℕ × ℕ)) (f i start step : ℕ) → IsUsed case.study case.currents f i → IsFirstStep case i step → HoldsRun case times f i start

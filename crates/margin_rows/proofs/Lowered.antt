@@ -1,16 +1,15 @@
 -- The lowest settings of the first box.
 use Rattle.std.specs.Prelude.{slice_get, slice_index}
 use Rattle.std.specs.Option.{IfSome, IsSomeAnd}
-use Rattle.std.proofs.Common.{◌≡◌, ℕ, ◌<◌, ◌≤◌, List, length, replicate, get_or, Some, None, Option, arith, refl, sym, ap, ◌∙◌, subst, inl, inr}
+use Rattle.std.proofs.Common.{◌≡◌, ℕ, ◌<◌, List, length, replicate, get_or, Some, None, Option, arith, refl, sym, ap, ◌∙◌, subst, inl, inr}
 use Rattle.std.proofs.lemmas.Bool.{cases_lt}
 use Rattle.std.proofs.lemmas.List.{get_or-replicate, length-replicate, get_or_past}
 use Rattle.std.proofs.lemmas.Option.{slice_get_within, get_or_from_slice_get}
 use Rattle.coord_model.specs.Allowed.{IsOnSteps, IsSensible}
-use Rattle.coord_model.specs.Choice.{Settings}
 use Rattle.coord_model.specs.Limits.{FitsStudy, FitsRelay}
 use Rattle.coord_model.specs.declared.study.Relay.{Relay}
 use Rattle.margin_rows.specs.Case.{Case}
-use Rattle.margin_rows.specs.FirstBox.{IsFirstStep, IsFirstLow, IsInFirstBox, IsLowest}
+use Rattle.margin_rows.specs.FirstBox.{IsFirstLow, IsLowest}
 use Rattle.margin_rows.proofs.Places.{some_and}
 use Rattle.margin_rows.proofs.Timed.{at_place}
 

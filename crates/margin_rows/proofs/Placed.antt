@@ -1,16 +1,14 @@
 -- Facts of the row, and of the term, with a number.
-use Rattle.std.specs.Prelude.{slice_get, slice_index, pos, ◌≤ℤ◌}
-use Rattle.std.specs.Option.{IfSome, IsSomeAnd, option_map_or}
-use Rattle.std.specs.List.{Contains, All, filter, sum_by, flat_map, range_with_len}
-use Rattle.std.proofs.Common.{◌≡◌, ℕ, ◌+◌, ◌*◌, ◌^◌, ◌<◌, ◌≤◌, ◌↔◌, List, [], ◌∷◌, length, get_or, take, Some, None, Option, arith, refl, sym, ap, ◌∙◌, ◌⊎◌, inl, inr, subst, map}
+use Rattle.std.specs.Prelude.{slice_get, pos, ◌≤ℤ◌}
+use Rattle.std.specs.Option.{IfSome, option_map_or}
+use Rattle.std.specs.List.{Contains, All, filter, sum_by}
+use Rattle.std.proofs.Common.{◌≡◌, ℕ, ◌+◌, ◌*◌, ◌^◌, ◌<◌, ◌≤◌, ◌↔◌, List, length, get_or, take, Some, None, Option, arith, refl, sym, ap, ◌∙◌, subst}
 use Rattle.std.proofs.lemmas.Int.{ints}
 use Rattle.std.proofs.lemmas.List.{length-map, get_or_default, take_all}
 use Rattle.std.proofs.lemmas.List.Concat.{length-flat_map}
-use Rattle.std.proofs.lemmas.List.Elements.{Contains-get_or, All-from_get_or}
 use Rattle.std.proofs.lemmas.List.FromFn.{length-range_with_len}
 use Rattle.std.proofs.lemmas.List.Sums.{sum_by-le, length-filter, count_by-le-length, sum_by_more}
 use Rattle.std.proofs.lemmas.Option.{slice_get-get_or, slice_get_within, get_or_from_slice_get}
-use Rattle.std.proofs.Math.Nat.{mul-le-mul_left, mul-le-mul_right}
 use Rattle.std.proofs.lemmas.Nat.{mul-le}
 use Rattle.coord_model.specs.Rows.{is_primary, terms_at, relay_numbers, fault_numbers}
 use Rattle.coord_model.specs.Cost.{weight_of}
@@ -19,7 +17,7 @@ use Rattle.coord_model.specs.StudyData.{StudyData}
 use Rattle.coord_model.specs.declared.study.Fault.{Fault}
 use Rattle.coord_model.specs.declared.study.Row.{Row}
 use Rattle.coord_model.specs.declared.study.Term.{Term}
-use Rattle.margin_rows.specs.Case.{Case, FitsCase, rows_in, terms_in, AtRow, AtTerm}
+use Rattle.margin_rows.specs.Case.{Case, rows_in, terms_in, AtRow, AtTerm}
 use Rattle.coord_model.specs.Enclosure.{Enclosure}
 use Rattle.margin_rows.specs.Margin.{margin}
 use Rattle.margin_rows.specs.Times.{ends, IsOrdinary}

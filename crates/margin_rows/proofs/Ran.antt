@@ -1,10 +1,9 @@
 -- Runs of times: where they begin, and that they stay as the list grows.
-use Rattle.std.specs.Prelude.{nat_le, slice_get, slice_index}
-use Rattle.std.proofs.Common.{◌≡◌, ℕ, ◌+◌, ◌-◌, ◌*◌, ◌<◌, ◌≤◌, Bool, true, false, cond, leb, List, [], ◌∷◌, ◌++◌, length, map, set, get_or, Some, None, Option, arith, refl, sym, ap, ◌∙◌, ◌⊎◌, inl, inr, subst}
-use Rattle.std.specs.List.{range_with_len}
-use Rattle.std.specs.Option.{IsSomeAnd, option_map_or}
+use Rattle.std.specs.Prelude.{slice_get}
+use Rattle.std.proofs.Common.{◌≡◌, ℕ, ◌+◌, ◌*◌, ◌<◌, Bool, true, false, cond, leb, List, [], ◌∷◌, ◌++◌, length, set, get_or, Some, Option, arith, refl, sym, ap, ◌∙◌, inl, inr, subst}
+use Rattle.std.specs.Option.{IsSomeAnd}
 use Rattle.std.proofs.lemmas.Bool.{le-leb, leb-true, cases_eq}
-use Rattle.std.proofs.lemmas.List.{append_assoc, append-nil, get_or_append_left, get_or-append-add, length-append, length-set, length-map, get_or-set_same, get_or-set_other, get_or_push, length_push}
+use Rattle.std.proofs.lemmas.List.{append_assoc, append-nil, get_or_append_left, get_or-append-add, length-append, length-set, get_or-set_same, get_or-set_other, get_or_push, length_push}
 use Rattle.std.proofs.lemmas.List.FromFn.{length-map-range_with_len, get_or-map-range_with_len}
 use Rattle.std.proofs.lemmas.Nat.{same_from_place}
 use Rattle.std.proofs.lemmas.Option.{slice_get-get_or, slice_get_within, get_or_from_slice_get}
@@ -17,7 +16,7 @@ use Rattle.coord_model.specs.declared.study.Row.{Row}
 use Rattle.coord_model.specs.declared.study.Term.{Term}
 use Rattle.margin_rows.specs.declared.runs.RowRuns.{RowRuns}
 use Rattle.margin_rows.specs.Case.{Case}
-use Rattle.margin_rows.specs.Tables.{IsTimed, cell, cells, Extends, HoldsRun, HoldsRuns}
+use Rattle.margin_rows.specs.Tables.{cell, cells, Extends, HoldsRun, HoldsRuns}
 use Rattle.margin_rows.specs.declared.runs.Runs.{Runs}
 use Rattle.margin_rows.specs.Times.{relay_time, time_at, ends}
 use Rattle.margin_rows.proofs.Places.{some_and, and_some}

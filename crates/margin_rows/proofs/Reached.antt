@@ -1,6 +1,6 @@
 -- How far a relay's pickup steps reach, current by current, and the span that this leaves.
 use Rattle.std.specs.Prelude.{slice_get, slice_index}
-use Rattle.std.proofs.Common.{◌≡◌, ◌≢◌, ℕ, ◌+◌, ◌-◌, ◌*◌, ◌<◌, ◌≤◌, List, [], ◌∷◌, ◌++◌, length, take, set, get_or, Some, None, Option, arith, refl, sym, ap, ◌∙◌, ◌⊎◌, inl, inr, subst}
+use Rattle.std.proofs.Common.{◌≡◌, ℕ, ◌+◌, ◌-◌, ◌<◌, ◌≤◌, List, [], ◌∷◌, ◌++◌, length, take, set, get_or, Some, None, Option, arith, refl, sym, ap, ◌∙◌, ◌⊎◌, inl, inr, subst}
 use Rattle.std.proofs.Math.Nat.{mul-le-mul_left, mul-le-mul_right}
 use Rattle.std.proofs.lemmas.Bool.{cases_eq, cases_lt}
 use Rattle.std.proofs.lemmas.List.{length-set, get_or-set_same, get_or-set_other, take_more, take_all}
@@ -10,12 +10,11 @@ use Rattle.std.specs.Option.{IsSomeAnd, option_map_or}
 use Rattle.coord_model.specs.Allowed.{IsUsed, Senses, ClearsLoad, IsSensible}
 use Rattle.coord_model.specs.Rows.{amps_at}
 use Rattle.coord_model.specs.StudyData.{StudyData}
-use Rattle.coord_model.specs.Time.{plug_at}
 use Rattle.coord_model.specs.declared.study.Relay.{Relay}
 use Rattle.coord_model.specs.declared.study.Row.{Row}
 use Rattle.coord_model.specs.declared.study.Term.{Term}
 use Rattle.margin_rows.specs.Case.{Case, rows_in, terms_in}
-use Rattle.margin_rows.specs.FirstBox.{IsFirstStep, IsFirstSpan, IsFirstSpanOf, HasNoStep}
+use Rattle.margin_rows.specs.FirstBox.{IsFirstStep, IsFirstSpanOf}
 use Rattle.margin_rows.specs.Reach.{steps_of, SensesAt, ClearsAt, IsCut, ReachesTo, AreReaches, IsClearSpan}
 use Rattle.margin_rows.proofs.Members.{member_here, member_cases, member_none, member_append, append_left, append_right}
 use Rattle.margin_rows.proofs.Multiples.{plug_rises}

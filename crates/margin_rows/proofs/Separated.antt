@@ -1,6 +1,6 @@
 -- What is under a curve's time is at most what is over it.
-use Rattle.std.proofs.Common.{◌≡◌, ◌≢◌, ℕ, ◌+◌, ◌-◌, ◌*◌, ◌^◌, ◌<◌, ◌≤◌, arith, refl, sym, ap, ◌∙◌, ◌⊎◌, inl, inr}
-use Rattle.std.proofs.Math.Nat.{mul_comm, mul_assoc, mul-le-mul_left, mul-le-mul_right, pow-lt-pow_left, one-le-pow, le_of_mul-le-mul_left}
+use Rattle.std.proofs.Common.{◌≡◌, ◌≢◌, ℕ, ◌+◌, ◌-◌, ◌*◌, ◌^◌, ◌<◌, ◌≤◌, arith, ap, inl, inr}
+use Rattle.std.proofs.Math.Nat.{mul-le-mul_right, pow-lt-pow_left, one-le-pow, le_of_mul-le-mul_left}
 use Rattle.std.proofs.lemmas.Nat.{mul-le, mul-pow}
 use Rattle.std.proofs.lemmas.Bool.{cases_lt}
 use Rattle.coord_model.specs.Time.{Multiple, excess, IsUnder, IsOver}

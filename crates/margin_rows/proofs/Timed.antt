@@ -1,27 +1,24 @@
 -- The times of a case at settings of the first box.
 use Rattle.std.specs.Prelude.{◌&&◌, ◌==◌, nat_lt, slice_get}
-use Rattle.std.proofs.Common.{◌≡◌, ℕ, ◌+◌, ◌-◌, ◌*◌, ◌^◌, ◌<◌, ◌≤◌, Bool, true, false, cond, List, [], ◌∷◌, length, Some, None, Option, arith, refl, sym, ap, ◌∙◌, ◌⊎◌, inl, inr, subst, get_or}
+use Rattle.std.proofs.Common.{◌≡◌, ℕ, ◌^◌, ◌<◌, ◌≤◌, Bool, true, false, cond, List, [], ◌∷◌, Some, Option, arith, refl, subst}
 use Rattle.std.proofs.lemmas.Option.{slice_get_within, get_or_from_slice_get}
 use Rattle.std.proofs.lemmas.List.Elements.{All-head, All-tail}
 use Rattle.std.specs.List.{All}
-use Rattle.std.specs.Option.{IsSomeAnd, IfSome, option_map_or}
-use Rattle.coord_model.specs.Allowed.{Senses, IsSensible, IsUsed, IsOverTime, IsUnderTime}
-use Rattle.coord_model.specs.Enclosure.{IsEnclosable}
+use Rattle.std.specs.Option.{option_map_or}
+use Rattle.coord_model.specs.Allowed.{Senses}
 use Rattle.coord_model.specs.Form.{form_of}
 use Rattle.coord_model.specs.Limits.{FitsStudy, FitsCurrents, FitsRelay, FitsCurrent}
 use Rattle.coord_model.specs.Rows.{amps_at}
 use Rattle.coord_model.specs.StudyData.{StudyData}
-use Rattle.coord_model.specs.Time.{Multiple, sensed_multiple, capped, IsUnder, IsOver}
+use Rattle.coord_model.specs.Time.{sensed_multiple, capped, IsUnder, IsOver}
 use Rattle.coord_model.specs.declared.curve.CurveName.{CurveName}
 use Rattle.coord_model.specs.declared.curve.CurveName.TheVariants.{IecA, IecB, IecC, IeeeMi, IeeeVi, IeeeEi}
 use Rattle.coord_model.specs.declared.study.Current.{Current}
 use Rattle.coord_model.specs.declared.study.Relay.{Relay}
-use Rattle.margin_rows.specs.Case.{Case, FitsCase, HasWholeExponent}
-use Rattle.margin_rows.specs.FirstBox.{IsFirstStep}
-use Rattle.margin_rows.specs.Times.{curve_time, relay_time, time_at, IsOrdinary}
+use Rattle.margin_rows.specs.Case.{Case, HasWholeExponent}
+use Rattle.margin_rows.specs.Times.{relay_time, time_at, IsOrdinary}
 use Rattle.margin_rows.proofs.Curves.{time_is_ordinary, time_is_under, time_is_over}
 use Rattle.margin_rows.proofs.Multiples.{sensed_enclosable}
-use Rattle.margin_rows.proofs.Separated.{separated}
 
 -- a fact on each element holds of the one at a place
 pub at_place : {X : Type 0} (P : X → Type 0) (xs : List X) (i : ℕ) (x : X) → All P xs → slice_get xs i ≡ Some x → P x

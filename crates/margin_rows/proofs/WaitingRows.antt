@@ -1,11 +1,10 @@
 -- The rows of a fault are its pairs whose primary clears it first and whose backup has a current.
-use Rattle.std.specs.Prelude.{◌&&◌, nat_lt, slice_get}
-use Rattle.std.proofs.Common.{◌≡◌, ℕ, ◌+◌, ◌<◌, ◌≤◌, Bool, true, false, cond, zero, suc, add-zero, ◌-◌, List, [], ◌∷◌, ◌++◌, length, map, take, get_or, arith, refl, sym, ap, ◌∙◌, subst}
-use Rattle.std.specs.List.{filter, flat_map, range_with_len, Contains, All}
+use Rattle.std.specs.Prelude.{◌&&◌, nat_lt}
+use Rattle.std.proofs.Common.{◌≡◌, ℕ, ◌+◌, ◌<◌, ◌≤◌, Bool, true, false, cond, zero, suc, add-zero, ◌-◌, List, [], ◌∷◌, ◌++◌, length, map, take, get_or, arith, refl, ap, ◌∙◌, subst}
+use Rattle.std.specs.List.{filter, flat_map, range_with_len, Contains}
 use Rattle.std.proofs.lemmas.List.{map-append, take_more, append-nil, append_assoc, length-append, take_all}
-use Rattle.std.proofs.lemmas.List.Concat.{flat_map-append, length-flat_map}
 use Rattle.std.proofs.lemmas.List.Elements.{filter-append, Contains-get_or}
-use Rattle.coord_model.specs.Rows.{amps_at, is_primary, waits, backs, rows_of, rows_at, rows_behind, pairs_of, pairs_behind, relay_numbers, fault_numbers}
+use Rattle.coord_model.specs.Rows.{amps_at, is_primary, waits, backs, rows_at, rows_behind, pairs_of, pairs_behind, relay_numbers}
 use Rattle.coord_model.specs.StudyData.{StudyData}
 use Rattle.coord_model.specs.declared.study.Pair.{Pair}
 use Rattle.coord_model.specs.declared.study.Row.{Row}

@@ -1,6 +1,6 @@
 -- The first box (ours): all dial steps of each relay, and the pickup steps that sense each current that counts and
 -- clear the load.
-use Rattle.std.specs.Prelude.{◌≡◌, ℕ, ◌<◌, ◌≤◌, ◌↔◌, Option, Some, None, length, slice_get, slice_index, IfSome, IsSomeAnd}
+use Rattle.std.specs.Prelude.{◌≡◌, ℕ, ◌<◌, ◌≤◌, Option, Some, None, length, slice_get, slice_index, IfSome, IsSomeAnd}
 use Rattle.coord_model.specs.Allowed.{AreOnSteps, IsSensible}
 use Rattle.coord_model.specs.Choice.{Settings}
 use Rattle.margin_rows.specs.Case.{Case}

@@ -1,6 +1,6 @@
 -- By how much a backup operates later than its primary and the coordination interval, in picoseconds: loosely
 -- with the ends of the enclosures that favour the settings, strictly with those that do not (ours).
-use Rattle.std.specs.Prelude.{ℕ, ℤ, pos, ◌+◌, ◌*◌, ◌^◌, ◌≤◌, ◌-ℤ◌, slice_index}
+use Rattle.std.specs.Prelude.{ℕ, ℤ, pos, ◌+◌, ◌*◌, ◌≤◌, ◌-ℤ◌, slice_index}
 use Rattle.coord_model.specs.Allowed.{dial_of}
 use Rattle.coord_model.specs.Choice.{Settings}
 use Rattle.coord_model.specs.Enclosure.{Enclosure}

@@ -1,5 +1,5 @@
 -- The cost of settings in whole weighted microseconds, from the ends of the enclosures (ours).
-use Rattle.std.specs.Prelude.{ℕ, ◌*◌, ◌/◌, slice_index}
+use Rattle.std.specs.Prelude.{ℕ, ◌*◌, ◌/◌}
 use Rattle.std.specs.Int.{div_ceil}
 use Rattle.coord_model.specs.Choice.{Settings}
 use Rattle.coord_model.specs.Allowed.{dial_of}

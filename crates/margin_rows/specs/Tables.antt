@@ -3,7 +3,7 @@ use Rattle.std.specs.Prelude.{◌≡◌, ℕ, ◌+◌, ◌*◌, ◌<◌, nat_le,
 use Rattle.std.specs.List.{range_with_len}
 use Rattle.coord_model.specs.Allowed.{Senses}
 use Rattle.coord_model.specs.Rows.{amps_at}
-use Rattle.margin_rows.specs.Case.{Case, FitsCase, rows_in, terms_in}
+use Rattle.margin_rows.specs.Case.{Case, rows_in, terms_in}
 use Rattle.margin_rows.specs.FirstBox.{IsFirstSpanOf}
 use Rattle.coord_model.specs.StudyData.{StudyData}
 use Rattle.coord_model.specs.Time.{sensed_multiple}

@@ -1,7 +1,7 @@
 -- The operating times of a case, enclosed in whole nanoseconds at dial 1 (ours).
-use Rattle.std.specs.Prelude.{◌≡◌, ℕ, ◌+◌, ◌<◌, ◌≤◌, ◌^◌, slice_get}
+use Rattle.std.specs.Prelude.{ℕ, ◌<◌, ◌≤◌, ◌^◌, slice_get}
 use Rattle.std.specs.Option.{option_map_or}
-use Rattle.coord_model.specs.Enclosure.{Enclosure, Root, enclosure, width_of}
+use Rattle.coord_model.specs.Enclosure.{Enclosure, Root, enclosure}
 use Rattle.coord_model.specs.Form.{form_of}
 use Rattle.coord_model.specs.Rows.{amps_at}
 use Rattle.coord_model.specs.Time.{Multiple, sensed_multiple, capped}

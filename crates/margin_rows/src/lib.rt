@@ -25,3 +25,6 @@ pub use instance::{Instance, build};
 pub use lowest::lowest_choice;
 pub use margin::{loose_row, strict_ok, strict_row};
 pub use price::{cost, lower_cost};
+
+#[cfg(test)]
+mod tests;

@@ -1,7 +1,6 @@
-use Rattle.std.proofs.Common.{sym, ap, ◌-◌, ◌∙◌, ◌≡◌, ◌<◌, ◌≤◌, ◌^◌, ℕ, arith, refl, subst}
+use Rattle.std.proofs.Common.{sym, ap, ◌-◌, ◌∙◌, ◌^◌, ℕ, arith, refl, subst}
 use Rattle.coord_model.specs.Form.{form_of}
 use Rattle.coord_model.specs.Time.{Multiple, IsUnder, IsOver}
-use Rattle.margin_rows.specs.Times.{curve_time}
 use Rattle.margin_rows.proofs.Curves.{powers_apart, lower_is, upper_is, time_is_ordinary, time_is_under, time_is_over}
 use Rattle.margin_rows.proofs.enclose.enclose.Goals as goal
 

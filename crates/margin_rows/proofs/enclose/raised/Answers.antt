@@ -1,5 +1,5 @@
-use Rattle.margin_rows.proofs.Curves.{pow_one, pow_two}
-use Rattle.std.proofs.Common.{sym, ap, ◌∙◌, ◌≡◌, ◌^◌, ℕ}
+use Rattle.margin_rows.proofs.Curves.{pow_one}
+use Rattle.std.proofs.Common.{sym, ap, ◌∙◌, ◌^◌, ℕ}
 use Rattle.margin_rows.proofs.enclose.raised.Goals as goal
 
 pub returns-then-exponent-eq1-clause-num : goal.returns-then-exponent-eq1-clause-num

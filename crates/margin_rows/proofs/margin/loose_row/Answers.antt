@@ -1,14 +1,12 @@
-use Rattle.std.specs.Prelude.{slice_get, ℤ, pos, ◌≤ℤ◌, ◌↔◌}
+use Rattle.std.specs.Prelude.{ℤ, pos, ◌≤ℤ◌}
 use mir.Syntax.{w64}
 use mir.Val.{SFits}
-use Rattle.std.proofs.Common.{arith, ap, sym, ◌∙◌, ◌≡◌, ℕ, subst, refl, rules}
+use Rattle.std.proofs.Common.{sym, ◌≡◌, ℕ, subst, refl, rules}
 use Rattle.std.proofs.lemmas.Int.{to_z-of_z}
 use Rattle.coord_model.specs.Allowed.{KeepsInterval}
 use Rattle.coord_model.specs.Choice.{choice_data}
-use Rattle.coord_model.specs.declared.study.Row.{Row}
-use Rattle.margin_rows.specs.Case.{Case, FitsCase, rows_in, AtRow}
-use Rattle.margin_rows.specs.Margin.{least_ps, greatest_ps, interval_ps, margin, loose_margin, strict_margin, MeetsLoosely, MeetsStrictly}
-use Rattle.margin_rows.proofs.Boxed.{row_keeps, row_meets}
+use Rattle.margin_rows.specs.Margin.{least_ps, greatest_ps, interval_ps, margin, loose_margin}
+use Rattle.margin_rows.proofs.Boxed.{row_meets}
 use Rattle.margin_rows.proofs.Placed.{at_row, margin_sign}
 use Rattle.margin_rows.proofs.margin.loose_row.Goals as goal
 

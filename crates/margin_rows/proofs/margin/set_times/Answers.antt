@@ -1,8 +1,8 @@
 use Rattle.std.specs.Prelude.{slice_get, slice_index}
-use Rattle.std.proofs.Common.{arith, ap, sym, ◌∙◌, ◌≡◌, ◌+◌, ◌<◌, ℕ, List, get_or, subst, Some, length}
+use Rattle.std.proofs.Common.{arith, sym, ◌≡◌, ℕ, get_or, subst, Some}
 use Rattle.coord_model.specs.Choice.{choice_data}
 use Rattle.coord_model.specs.declared.study.Row.{Row}
-use Rattle.margin_rows.specs.Case.{Case, FitsCase, rows_in}
+use Rattle.margin_rows.specs.Case.{rows_in}
 use Rattle.margin_rows.specs.FirstBox.{IsFirstStep}
 use Rattle.coord_model.specs.Allowed.{dial_of}
 use Rattle.margin_rows.specs.Margin.{least_ps, greatest_ps, time_of}

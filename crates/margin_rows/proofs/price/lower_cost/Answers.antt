@@ -1,4 +1,4 @@
-use Rattle.std.proofs.Common.{ap, ◌∙◌, ◌/◌, sym, ℕ, subst}
+use Rattle.std.proofs.Common.{ap, ◌/◌, sym, ℕ, subst}
 use Rattle.coord_model.specs.Choice.{choice_data}
 use Rattle.coord_model.specs.Cost.{CostsAtLeast}
 use Rattle.margin_rows.specs.Price.{lower_cost_of}

@@ -1,9 +1,9 @@
-use Rattle.std.proofs.Common.{arith, ap, length, List, ◌<◌, ◌≤◌}
+use Rattle.std.proofs.Common.{arith, ap, length, List, ◌<◌}
 use Rattle.coord_model.specs.Choice.{choice_data}
 use Rattle.coord_model.specs.declared.study.Term.{Term}
 use Rattle.margin_rows.specs.Case.{terms_in}
 use Rattle.margin_rows.specs.Price.{least_part, greatest_part}
-use Rattle.margin_rows.proofs.Placed.{part_more, part_all, terms_few}
+use Rattle.margin_rows.proofs.Placed.{part_more, terms_few}
 use Rattle.margin_rows.proofs.price.sums.Goals as goal
 
 pub overflow_cast-term-end : goal.overflow_cast-term-end

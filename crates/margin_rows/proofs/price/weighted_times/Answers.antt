@@ -1,12 +1,12 @@
 use Rattle.std.specs.Prelude.{slice_get, slice_index}
-use Rattle.std.proofs.Common.{arith, ap, sym, ◌∙◌, ◌≡◌, ◌+◌, ◌<◌, ℕ, List, get_or, subst, Some, length}
+use Rattle.std.proofs.Common.{arith, ap, sym, ◌∙◌, ◌≡◌, ℕ, get_or, subst, Some, length}
 use Rattle.coord_model.specs.Allowed.{dial_of}
 use Rattle.coord_model.specs.Choice.{choice_data}
 use Rattle.coord_model.specs.Cost.{weight_of}
 use Rattle.coord_model.specs.StudyData.{StudyData, study_data}
 use Rattle.coord_model.specs.declared.study.Fault.{Fault}
 use Rattle.coord_model.specs.declared.study.Term.{Term}
-use Rattle.margin_rows.specs.Case.{Case, FitsCase, terms_in}
+use Rattle.margin_rows.specs.Case.{terms_in}
 use Rattle.margin_rows.specs.FirstBox.{IsFirstStep}
 use Rattle.margin_rows.specs.Margin.{time_of}
 use Rattle.margin_rows.specs.Price.{least_part, greatest_part}

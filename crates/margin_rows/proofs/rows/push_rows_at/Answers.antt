@@ -1,8 +1,4 @@
-use Rattle.std.proofs.Common.{sym, ap, ◌∙◌, refl, subst, List}
-use Rattle.std.specs.List.{Contains, filter}
-use Rattle.std.proofs.lemmas.List.{take_all}
-use Rattle.std.proofs.lemmas.List.Elements.{Contains-get_or}
-use Rattle.coord_model.specs.declared.study.Pair.{Pair}
+use Rattle.std.proofs.Common.{sym, ap, ◌∙◌}
 use Rattle.margin_rows.specs.Waiting.{waits_at, row_from}
 use Rattle.margin_rows.proofs.WaitingRows.{waits_yes, waits_no, rows_all, listed_relays}
 use Rattle.margin_rows.proofs.rows.push_rows_at.Goals as goal

@@ -1,5 +1,5 @@
 use Rattle.coord_model.specs.StudyData.{study_data}
-use Rattle.std.proofs.Common.{◌∙◌, ap, List, ◌++◌, ◌∷◌, [], ℕ}
+use Rattle.std.proofs.Common.{◌∙◌, ap, ◌++◌, ◌∷◌, []}
 use Rattle.margin_rows.specs.Tables.{cell}
 use Rattle.margin_rows.proofs.Counted.{mapped_yes}
 use Rattle.margin_rows.proofs.runs.push_run.Goals as goal

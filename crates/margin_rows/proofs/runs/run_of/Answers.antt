@@ -1,8 +1,8 @@
 use Rattle.coord_model.specs.StudyData.{study_data, StudyData}
-use Rattle.std.proofs.Common.{arith, ap, sym, ◌∙◌, ◌≡◌, ◌+◌, ◌*◌, ◌<◌, ℕ, refl, length, subst, get_or, set, Some, Option}
+use Rattle.std.proofs.Common.{arith, ap, ◌∙◌, ◌≡◌, ◌+◌, ◌*◌, ℕ, length, get_or, set, Some}
 use Rattle.std.specs.Prelude.{slice_get}
 use Rattle.std.proofs.lemmas.Nat.{mul-add-lt}
-use Rattle.margin_rows.specs.Tables.{cells, HoldsRun}
+use Rattle.margin_rows.specs.Tables.{cells}
 use Rattle.margin_rows.proofs.Ran.{run_made, start_there, runs_more, place_is}
 use Rattle.margin_rows.proofs.Reached.{relay_there}
 use Rattle.margin_rows.proofs.Timed.{amps_few}

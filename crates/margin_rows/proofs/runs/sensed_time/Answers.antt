@@ -1,7 +1,6 @@
-use Rattle.coord_model.specs.Enclosure.{IsEnclosable}
 use Rattle.coord_model.specs.StudyData.{study_data}
 use Rattle.coord_model.specs.Time.{plug_at}
-use Rattle.std.proofs.Common.{◌≡◌, ◌*◌, ◌<◌, refl}
+use Rattle.std.proofs.Common.{◌≡◌, ◌*◌, refl}
 use Rattle.margin_rows.proofs.Multiples.{below_cap}
 use Rattle.margin_rows.proofs.runs.sensed_time.Goals as goal
 

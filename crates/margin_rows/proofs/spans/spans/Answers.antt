@@ -1,4 +1,4 @@
-use Rattle.std.proofs.Common.{arith, ap, length, List, ℕ, Option, get_or, subst, sym}
+use Rattle.std.proofs.Common.{arith, ap, length, ℕ, get_or, subst}
 use Rattle.coord_model.specs.StudyData.{StudyData}
 use Rattle.margin_rows.specs.FirstBox.{IsFirstSpanOf}
 use Rattle.margin_rows.specs.Reach.{IsClearSpan}
