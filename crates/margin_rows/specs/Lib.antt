@@ -1,0 +1,10 @@
+pub mod Case
+pub mod FirstBox
+pub mod Given
+pub mod Margin
+pub mod Price
+pub mod Reach
+pub mod Refusal
+pub mod Tables
+pub mod Times
+pub mod Waiting

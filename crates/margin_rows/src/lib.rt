@@ -1,0 +1,30 @@
+//! A study with its currents, ready to be coordinated: which operating times count, where a backup has to wait, and
+//! the enclosure of each time.
+//!
+//! Times are in nanoseconds at dial 1, each with a lower and an upper end. Dials are in thousandths, so that a
+//! dial times a time, and a margin, is in picoseconds. Costs are in whole weighted microseconds. Which choice is
+//! best is left to others.
+#![tactic(auto)]
+
+mod enclose;
+mod fault;
+mod given;
+mod instance;
+mod lowest;
+mod margin;
+mod pairs;
+mod price;
+mod rows;
+mod runs;
+mod spans;
+mod tables;
+mod terms;
+
+pub use fault::BuildFault;
+pub use instance::{Instance, build};
+pub use lowest::lowest_choice;
+pub use margin::{loose_row, strict_ok, strict_row};
+pub use price::{cost, lower_cost};
+
+#[cfg(test)]
+mod tests;

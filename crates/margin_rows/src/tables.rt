@@ -1,0 +1,49 @@
+//! What an instance works out once.
+ghost use Rattle.std.specs.Prelude.{◌≡◌, ◌≤◌, length, IfOk, IfErr};
+ghost use Rattle.margin_rows.specs.Case.{FitsCase};
+ghost use Rattle.margin_rows.specs.Refusal.{HasCause};
+ghost use Rattle.margin_rows.specs.Tables.{AreTablesOf};
+
+use crate::fault::BuildFault;
+use crate::given::Given;
+use crate::pairs::pairs;
+use crate::rows::rows;
+use crate::runs::{RowRuns, no_runs, row_runs, term_runs};
+use crate::spans::first_spans;
+use crate::terms::terms;
+use coord_model::{Row, Term};
+use std::alloc::Global;
+
+/// The rows and terms, the first box, the operating times, and where those of each term and row begin.
+#[derive(Drop)]
+pub struct Tables {
+    pub rows: Vec<Row>,
+    pub terms: Vec<Term>,
+    pub spans: Vec<Option<(u16, u16)>>,
+    pub times: Vec<(u64, u64)>,
+    pub term_runs: Vec<usize>,
+    pub row_runs: Vec<RowRuns>,
+}
+
+/// The tables of a study and its currents.
+pub fn tabulate(alloc: Global, given: &Given) -> Result<Tables, BuildFault>
+    ensures fits { IfOk result (λ _. FitsCase given.now) }
+    ensures exact { IfOk result (AreTablesOf given.now) }
+    ensures refused { IfErr result (HasCause given.now) }
+{
+    let pairs = pairs(alloc, given.study())?;
+    let terms = terms(alloc, given)?;
+    let rows = rows(alloc, given, pairs.as_slice())?;
+    let spans = first_spans(alloc, given, terms.as_slice(), rows.as_slice())?;
+    let mut runs = no_runs(alloc, given)?;
+    let term_runs = term_runs(alloc, given, terms.as_slice(), &mut runs)?;
+    let row_runs = row_runs(alloc, given, rows.as_slice(), &mut runs)?;
+    Ok(Tables {
+        rows,
+        terms,
+        spans,
+        times: runs.times,
+        term_runs,
+        row_runs,
+    })
+}

@@ -1,0 +1,158 @@
+//! Studies that are worked out by hand: curve B takes 13.5/(M - 1) seconds at the multiple of pickup M and dial 1.
+ghost use Rattle.std.specs.Prelude.{IfSome};
+ghost use Rattle.coord_model.specs.Choice.{choice_data};
+ghost use Rattle.margin_rows.specs.FirstBox.{IsInFirstBox};
+
+use crate::enclose::enclose;
+use crate::fault::BuildFault;
+use crate::{Instance, cost, loose_row, lower_cost, lowest_choice, strict_ok, strict_row};
+use coord_model::{Choice, CurveName, NoMemory, Row, Term};
+use std::alloc::Global;
+
+mod studies;
+
+use studies::{one_fault, one_line, two_lines};
+
+#[test]
+fn times_are_enclosed(rt: HostRuntime) {
+    assert_eq!(rt;
+        enclose(CurveName::IecB, 10, 1),
+        (1_500_000_000, 1_500_000_000)
+    );
+    assert_eq!(rt;
+        enclose(CurveName::IecB, 8, 1),
+        (1_928_571_428, 1_928_571_429)
+    );
+    assert_eq!(rt;
+        enclose(CurveName::IeeeVi, 10, 1),
+        (689_080_808, 689_080_809)
+    );
+    assert_eq!(rt;
+        enclose(CurveName::IeeeEi, 5, 1),
+        (1_296_700_000, 1_296_700_000)
+    );
+}
+
+// At multiple 10 dials 0.250 and 0.050 lie 300 ms apart, exactly the interval.
+#[test]
+fn a_row_is_met_exactly(rt: HostRuntime) -> Result<(), BuildFault> {
+    let inst = two_lines(rt.alloc())?;
+    let rows = [Row {
+        fault: 0,
+        backup: 0,
+        primary: 1,
+    }];
+    assert!(rt; inst.rows() == rows.as_slice());
+    let terms = [Term { fault: 0, relay: 1 }, Term { fault: 1, relay: 0 }];
+    assert!(rt; inst.terms() == terms.as_slice());
+    let seen = seen_at(rt.alloc(), &inst, 4)?;
+    assert!(rt;
+        seen == Some(Seen {
+            loose: 0,
+            strict: 0,
+            ok: true,
+            cost: 262_500,
+            lower_cost: 262_500
+        })
+    );
+    Ok(())
+}
+
+// At multiple 8 the multiplier is 13.5/7 s: dials 0.280 and 0.140 lie 270 ms apart in truth, but not at the lower end.
+#[test]
+fn a_row_is_met_by_a_hair(rt: HostRuntime) -> Result<(), BuildFault> {
+    let inst = one_fault(rt.alloc())?;
+    let seen = seen_at(rt.alloc(), &inst, 1)?;
+    assert!(rt;
+        seen == Some(Seen {
+            loose: 200,
+            strict: -220,
+            ok: false,
+            cost: 270_001,
+            lower_cost: 269_999
+        })
+    );
+    Ok(())
+}
+
+// 110 A is 1.10 times 1.00 A, exactly at the least multiple sensed, and less than 1.10 times 1.01 A.
+#[test]
+fn a_step_that_does_not_sense_is_left_out(rt: HostRuntime) -> Result<(), BuildFault> {
+    let inst = one_line(rt.alloc(), 1, 0, 110)?;
+    assert!(rt; first_span(&inst) == Some((0, 0)));
+    Ok(())
+}
+
+// 100,000 A is past the cap at both steps, so both take 13.5/19 s.
+#[test]
+fn a_multiple_past_the_cap_is_the_cap(rt: HostRuntime) -> Result<(), BuildFault> {
+    let inst = one_line(rt.alloc(), 100, 0, 100_000)?;
+    assert!(rt; first_span(&inst) == Some((0, 1)));
+    let Some(choice) = lowest_choice(rt.alloc(), &inst)? else {
+        return Err(BuildFault::NoMemory);
+    };
+    assert_eq!(rt; cost(&inst, &choice), 35_527);
+    assert_eq!(rt; lower_cost(&inst, &choice), 35_526);
+    Ok(())
+}
+
+// A load of 500 A at 120 percent asks for 600 A, and the greatest pickup is 200 A.
+#[test]
+fn a_load_can_leave_no_step(rt: HostRuntime) -> Result<(), BuildFault> {
+    let inst = one_line(rt.alloc(), 100, 500, 1_000)?;
+    assert!(rt; first_span(&inst) == None);
+    assert!(rt; lowest_choice(rt.alloc(), &inst)?.is_none());
+    Ok(())
+}
+
+/// What the calls answer for a choice at the first row.
+#[derive(Clone, Copy, PartialEq, Eq, Debug)]
+struct Seen {
+    loose: i64,
+    strict: i64,
+    ok: bool,
+    cost: u64,
+    lower_cost: u64,
+}
+
+/// What the calls answer at the lowest choice, with the dial of relay 0 at a step.
+fn seen_at(alloc: Global, inst: &Instance, step: u16) -> Result<Option<Seen>, NoMemory> {
+    let Some(choice) = lowest_choice(alloc, inst)? else {
+        return Ok(None);
+    };
+    let Some(choice) = with_dial(inst, choice, 0, step) else {
+        return Ok(None);
+    };
+    if inst.rows().is_empty() {
+        return Ok(None);
+    }
+    Ok(Some(Seen {
+        loose: loose_row(inst, &choice, 0),
+        strict: strict_row(inst, &choice, 0),
+        ok: strict_ok(inst, &choice),
+        cost: cost(inst, &choice),
+        lower_cost: lower_cost(inst, &choice),
+    }))
+}
+
+/// A choice with the dial of a relay at a step. `None`: the relay has no such step.
+fn with_dial(inst: &Instance, mut choice: Choice, relay: u16, step: u16) -> Option<Choice>
+    requires { IsInFirstBox inst.now (choice_data choice) }
+    ensures { IfSome result (λ turned. IsInFirstBox inst.now (choice_data turned)) }
+{
+    let place = usize::from(relay);
+    let relays = inst.study().relays.as_slice();
+    if place >= relays.len() || u32::from(step) >= relays[place].dial_count {
+        return None;
+    }
+    choice.dial[place] = step;
+    Some(choice)
+}
+
+/// The first box's span of relay 0.
+fn first_span(inst: &Instance) -> Option<(u16, u16)> {
+    if inst.study().relays.is_empty() {
+        return None;
+    }
+    inst.first_pickups(0)
+}

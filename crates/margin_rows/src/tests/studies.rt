@@ -1,0 +1,265 @@
+//! The studies that the tests use, and their currents.
+ghost use Rattle.std.specs.Prelude.{◌≡◌, ◌<◌, ◌≤◌, All, IfOk, length};
+ghost use Rattle.coord_model.specs.Limits.{FitsStudy, IsBetween};
+ghost use Rattle.coord_model.specs.StudyData.{study_data, entries_of};
+ghost use Rattle.margin_rows.specs.Case.{HasWholeExponent};
+
+use crate::fault::BuildFault;
+use crate::{Instance, build};
+use coord_model::{Current, Currents, CurveName, Fault, Line, Name, NoMemory, Relay, Study};
+use std::alloc::Global;
+
+fn name() -> Name {
+    Name::new(b"X").unwrap()
+}
+
+/// A relay at the front of a line, with CT 100 to 1, curve B and plugs from 1 A.
+fn relay(
+    line: u16,
+    plug_step: u32,
+    plug_count: u32,
+    dial: u32,
+    dial_count: u32,
+    load_amps: u32,
+) -> Relay
+    ensures { result ≡ record result {
+      line = line;
+      bus = line;
+      curve = CurveName.IecB;
+      ct_primary = 100;
+      ct_secondary = 1;
+      plug_first = 100;
+      plug_step = plug_step;
+      plug_count = plug_count;
+      dial_first = dial;
+      dial_step = dial;
+      dial_count = dial_count;
+      load_amps = load_amps;
+    } }
+{
+    Relay {
+        name: name(),
+        line,
+        bus: line,
+        curve: CurveName::IecB,
+        ct_primary: 100,
+        ct_secondary: 1,
+        plug_first: 100,
+        plug_step,
+        plug_count,
+        dial_first: dial,
+        dial_step: dial,
+        dial_count,
+        load_amps,
+    }
+}
+
+/// Two lines in a row with a relay at the front of each, and a fault on each.
+pub fn two_lines(alloc: Global) -> Result<Instance, BuildFault> {
+    build(alloc, two_lines_study(alloc)?, two_lines_currents(alloc)?)
+}
+
+fn two_lines_study(alloc: Global) -> Result<Study, NoMemory>
+    ensures fits { IfOk result (λ study. FitsStudy (study_data study)) }
+    ensures curves { IfOk result (λ study. All HasWholeExponent study.relays.items) }
+    ensures faults { IfOk result (λ study. length study.faults.items ≡ 2) }
+    ensures relays { IfOk result (λ study. length study.relays.items ≡ 2) }
+{
+    let lines = [
+        Line {
+            name: name(),
+            from: 0,
+            to: 1,
+        },
+        Line {
+            name: name(),
+            from: 1,
+            to: 2,
+        },
+    ];
+    let relays = [relay(0, 100, 1, 50, 20, 0), relay(1, 100, 1, 50, 20, 0)];
+    let faults = [
+        Fault {
+            name: name(),
+            line: 1,
+            weight: 1,
+        },
+        Fault {
+            name: name(),
+            line: 0,
+            weight: 1,
+        },
+    ];
+    Ok(Study {
+        cti_ms: 300,
+        sense: 110,
+        cap: 20,
+        load_percent: 120,
+        buses: Vec::from_slice(alloc, &[name(), name(), name()])?,
+        lines: Vec::from_slice(alloc, &lines)?,
+        relays: Vec::from_slice(alloc, &relays)?,
+        faults: Vec::from_slice(alloc, &faults)?,
+        exempt: Vec::new(alloc),
+    })
+}
+
+fn two_lines_currents(alloc: Global) -> Result<Currents, NoMemory>
+    ensures few { IfOk result (λ currents. length (entries_of currents) ≤ 8192) }
+    ensures each { IfOk result (λ currents. All (λ entry. (entry.fault < 2) × (entry.relay < 2) × (entry.amps ≤ 100000)) (entries_of currents)) }
+{
+    let entries = [
+        Current {
+            fault: 0,
+            relay: 1,
+            amps: 1_000,
+        },
+        Current {
+            fault: 0,
+            relay: 0,
+            amps: 1_000,
+        },
+        Current {
+            fault: 1,
+            relay: 0,
+            amps: 1_900,
+        },
+    ];
+    Ok(Currents {
+        entries: Vec::from_slice(alloc, &entries)?,
+    })
+}
+
+/// The same two lines with an interval of 270 ms, dials 0.140 and 0.280, and a fault on the second line alone.
+pub fn one_fault(alloc: Global) -> Result<Instance, BuildFault> {
+    build(alloc, one_fault_study(alloc)?, one_fault_currents(alloc)?)
+}
+
+fn one_fault_study(alloc: Global) -> Result<Study, NoMemory>
+    ensures fits { IfOk result (λ study. FitsStudy (study_data study)) }
+    ensures curves { IfOk result (λ study. All HasWholeExponent study.relays.items) }
+    ensures faults { IfOk result (λ study. length study.faults.items ≡ 1) }
+    ensures relays { IfOk result (λ study. length study.relays.items ≡ 2) }
+{
+    let lines = [
+        Line {
+            name: name(),
+            from: 0,
+            to: 1,
+        },
+        Line {
+            name: name(),
+            from: 1,
+            to: 2,
+        },
+    ];
+    let relays = [relay(0, 100, 1, 140, 2, 0), relay(1, 100, 1, 140, 2, 0)];
+    Ok(Study {
+        cti_ms: 270,
+        sense: 110,
+        cap: 20,
+        load_percent: 120,
+        buses: Vec::from_slice(alloc, &[name(), name(), name()])?,
+        lines: Vec::from_slice(alloc, &lines)?,
+        relays: Vec::from_slice(alloc, &relays)?,
+        faults: Vec::from_slice(
+            alloc,
+            &[Fault {
+                name: name(),
+                line: 1,
+                weight: 1,
+            }],
+        )?,
+        exempt: Vec::new(alloc),
+    })
+}
+
+fn one_fault_currents(alloc: Global) -> Result<Currents, NoMemory>
+    ensures few { IfOk result (λ currents. length (entries_of currents) ≤ 8192) }
+    ensures each { IfOk result (λ currents. All (λ entry. (entry.fault < 1) × (entry.relay < 2) × (entry.amps ≤ 100000)) (entries_of currents)) }
+{
+    let entries = [
+        Current {
+            fault: 0,
+            relay: 1,
+            amps: 800,
+        },
+        Current {
+            fault: 0,
+            relay: 0,
+            amps: 800,
+        },
+    ];
+    Ok(Currents {
+        entries: Vec::from_slice(alloc, &entries)?,
+    })
+}
+
+/// One line with a relay of two pickups and a fault on it.
+pub fn one_line(
+    alloc: Global,
+    plug_step: u32,
+    load_amps: u32,
+    amps: u32,
+) -> Result<Instance, BuildFault>
+    requires plug_step { IsBetween 1 plug_step 100 }
+    requires load { load_amps ≤ 500 }
+    requires amps { amps ≤ 100000 }
+{
+    build(
+        alloc,
+        one_line_study(alloc, plug_step, load_amps)?,
+        one_line_currents(alloc, amps)?,
+    )
+}
+
+fn one_line_study(alloc: Global, plug_step: u32, load_amps: u32) -> Result<Study, NoMemory>
+    requires plug_step { IsBetween 1 plug_step 100 }
+    requires load { load_amps ≤ 500 }
+    ensures fits { IfOk result (λ study. FitsStudy (study_data study)) }
+    ensures curves { IfOk result (λ study. All HasWholeExponent study.relays.items) }
+    ensures faults { IfOk result (λ study. length study.faults.items ≡ 1) }
+    ensures relays { IfOk result (λ study. length study.relays.items ≡ 1) }
+{
+    Ok(Study {
+        cti_ms: 300,
+        sense: 110,
+        cap: 20,
+        load_percent: 120,
+        buses: Vec::from_slice(alloc, &[name(), name()])?,
+        lines: Vec::from_slice(
+            alloc,
+            &[Line {
+                name: name(),
+                from: 0,
+                to: 1,
+            }],
+        )?,
+        relays: Vec::from_slice(alloc, &[relay(0, plug_step, 2, 50, 1, load_amps)])?,
+        faults: Vec::from_slice(
+            alloc,
+            &[Fault {
+                name: name(),
+                line: 0,
+                weight: 1,
+            }],
+        )?,
+        exempt: Vec::new(alloc),
+    })
+}
+
+fn one_line_currents(alloc: Global, amps: u32) -> Result<Currents, NoMemory>
+    requires { amps ≤ 100000 }
+    ensures few { IfOk result (λ currents. length (entries_of currents) ≤ 8192) }
+    ensures each { IfOk result (λ currents. All (λ entry. (entry.fault < 1) × (entry.relay < 1) × (entry.amps ≤ 100000)) (entries_of currents)) }
+{
+    Ok(Currents {
+        entries: Vec::from_slice(
+            alloc,
+            &[Current {
+                fault: 0,
+                relay: 0,
+                amps,
+            }],
+        )?,
+    })
+}
