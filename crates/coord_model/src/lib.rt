@@ -10,6 +10,7 @@ mod kinds;
 mod memory;
 mod name;
 mod study;
+mod weights;
 
 pub use choice::{Choice, Ending};
 pub use curve::{Curve, CurveForm, CurveName, form};
@@ -17,3 +18,4 @@ pub use kinds::{Key, NetKind, TableName, What};
 pub use memory::NoMemory;
 pub use name::Name;
 pub use study::{Current, Currents, Exempt, Fault, Line, Pair, Relay, Row, Study, Term};
+pub use weights::{Weight, Weights};
