@@ -1,8 +1,11 @@
-//! Numbers as the program writes them in its files and on its output.
+//! Numbers and lines as the program writes them in its files and on its output.
 //!
-//! Decimal digits without leading zeros; a fixed-point number has a point before its last places.
+//! Decimal digits without leading zeros; a fixed-point number has a point before its last places. A line has at
+//! most 2,048 printable characters and ends in a line feed.
 #![tactic(auto)]
 
+mod lines;
 mod numbers;
 
+pub use lines::{NextLine, next_line};
 pub use numbers::{push_fixed, push_number, push_signed};

@@ -1,4 +1,4 @@
-use Rattle.std.proofs.Common.{◌≡◌, ◌<◌, ◌≤◌, ◌/◌, ◌^◌, ◌∷◌, [], ◌++◌, arith, append_assoc, sym, ◌∙◌, length, take, ap, subst, vec_len, length-append}
+use Rattle.std.proofs.Common.{◌≡◌, ◌≤◌, ◌/◌, ◌^◌, ◌∷◌, [], ◌++◌, arith, length, take, ap, subst, vec_len, length-append}
 use Rattle.std.specs.Fmt.{decimal}
 use Rattle.std.proofs.Math.Nat.{one-le-pow}
 use Rattle.std.proofs.lemmas.Grind.{common_steps}

@@ -1,0 +1,7 @@
+use Rattle.std.proofs.Common.{[], ◌∷◌, refl}
+use Rattle.std.proofs.lemmas.Cmp.{nat_eq_equiv}
+use Rattle.std.proofs.lemmas.Map.Made.{IsDistinct-from_count}
+use Rattle.dual_round.proofs.weights.tests.rounds_halves_up_and_caps.Goals as goal
+
+pub round-requires-clause-distinct : goal.round-requires-clause-distinct
+round-requires-clause-distinct g c = IsDistinct-from_count nat_eq_equiv (9 ∷ 3 ∷ 4 ∷ 5 ∷ 2 ∷ []) refl
