@@ -1,0 +1,4 @@
+pub mod ChoiceLaws
+pub mod EndLaws
+pub mod ReadingLaws
+pub mod StepLaws

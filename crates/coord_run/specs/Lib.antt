@@ -1,0 +1,12 @@
+pub mod Inputs
+pub mod Names
+pub mod Outcome
+pub mod Outside
+pub mod Refusal
+pub mod RefusalText
+pub mod Report
+pub mod Run
+pub mod Settlement
+pub mod Solve
+pub mod Steps
+pub mod Words

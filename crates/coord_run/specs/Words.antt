@@ -1,0 +1,26 @@
+-- The words that the program is called with (ours).
+use Rattle.std.specs.Prelude.{ℕ, Bool, ◌&&◌, ◌==◌, nat_lt, not, Option, Some, None, List, [], ◌∷◌, length, codes, slice_index, if◌then◌else◌}
+use Rattle.std.specs.Str.{bytes_eq}
+
+-- the files that `solve` names
+pub record SolveNames : Type 0 where
+  pub network : List ℕ
+  pub currents : List ℕ
+  pub sheet : List ℕ
+
+-- the word is a name: a word of two or more bytes that begins with `-` is none
+abbrev pub is_name : List ℕ → Bool
+is_name word = not (nat_lt 1 (length word) && (slice_index word 0 == 45))
+
+-- the three names are names and differ pairwise
+abbrev pub are_names : List ℕ → List ℕ → List ℕ → Bool
+are_names network currents sheet =
+    is_name network && is_name currents && is_name sheet
+    && not (bytes_eq network currents) && not (bytes_eq network sheet) && not (bytes_eq currents sheet)
+
+-- the names of `solve NETWORK CURRENTS SHEET`, if the words are that command
+unfoldable pub solve_of : List (List ℕ) → Option SolveNames
+solve_of (command ∷ network ∷ currents ∷ sheet ∷ []) =
+    if bytes_eq command (codes "solve") && are_names network currents sheet
+    then Some (record { network = network; currents = currents; sheet = sheet }) else None
+solve_of words = None

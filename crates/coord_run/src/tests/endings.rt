@@ -1,0 +1,164 @@
+use super::*;
+use coord_io::{DiskFolder, read_whole};
+use std::fs;
+
+/// The fault on the first line, alone.
+const SECOND_FAULT: &str = r#"
+[[fault]]
+name = "F2"
+line = "AB"
+weight = 1
+"#;
+
+/// One relay on one line.
+const ALONE: &str = r#"format = 1
+[study]
+cti_ms = 300
+[[line]]
+name = "AB"
+from = "A"
+to = "B"
+[[relay]]
+name = "R1"
+line = "AB"
+bus = "A"
+curve = "iec-b"
+ct_primary = 100
+ct_secondary = 1
+plug_first = 100
+dial_first = 50
+[[fault]]
+name = "F1"
+line = "AB"
+"#;
+
+const NO_SETTINGS: &str = "coord-sheet 1\nending no-settings\ncost none\nbound none\nend\n";
+
+/// Asserts that the network and the currents end so: the status, what is printed, and the sheet.
+fn ends(
+    rt: &(impl AllocGlobal + Abort),
+    network: &str,
+    currents: &str,
+    status: u8,
+    text: &str,
+    sheet: &str,
+) -> Result<(), AllocError> {
+    let mut folder = inputs(rt, network, currents, Vec::new(rt.alloc()))?;
+    answers(rt, &SOLVE, &mut folder, status, text)?;
+    holds(rt, &folder, "s", sheet);
+    holds(rt, &folder, "n", network);
+    holds(rt, &folder, "t", currents);
+    Ok(())
+}
+
+#[test]
+fn two_relays_in_line_end_by_their_dials(rt: HostRuntime) -> Result<(), test::Fail> {
+    ends(&rt, NETWORK, CURRENTS, 0, REPORT, SHEET)?;
+
+    // 0.3 s at F1, 0.225 s more than R2
+    let short = changed(&rt, &[("dial_first = 250", "dial_first = 200")])?;
+    ends(
+        &rt,
+        &short,
+        CURRENTS,
+        3,
+        "no settings boxes 1\n",
+        NO_SETTINGS,
+    )?;
+
+    // 600 A of load with its reserve, above the pickup of 100 A
+    let loaded = changed(&rt, &[("load_amps = 0", "load_amps = 500")])?;
+    ends(
+        &rt,
+        &loaded,
+        CURRENTS,
+        3,
+        "no settings boxes 1\n",
+        NO_SETTINGS,
+    )?;
+
+    // 13.5/7 s for each at 8 times pickup: 0.140 times that is the interval exactly, but its enclosure is not
+    let exact = changed(
+        &rt,
+        &[
+            ("cti_ms = 300", "cti_ms = 270"),
+            ("dial_first = 250", "dial_first = 280"),
+            ("dial_first = 50", "dial_first = 140"),
+            (SECOND_FAULT, ""),
+        ],
+    )?;
+    ends(
+        &rt,
+        &exact,
+        "fault,relay,amps\nF1,R2,800\nF1,R1,800\n",
+        7,
+        "hairline cost none bound 269999 boxes 1
+row F1 R1 R2 loose 200 strict -220
+relay R1 plug 1.00 dial 0.280
+relay R2 plug 1.00 dial 0.140
+",
+        "coord-sheet 1\nending hairline\ncost none\nbound 269999\nend\n",
+    )?;
+    Ok(())
+}
+
+#[test]
+fn one_relay_ends_by_its_multiple(rt: HostRuntime) -> Result<(), test::Fail> {
+    // sensed from 1.1 times pickup on, where the time is 135 s times the dial
+    ends(
+        &rt,
+        ALONE,
+        "fault,relay,amps\nF1,R1,110\n",
+        0,
+        "closed cost 6750000 bound 6750000 boxes 1\n",
+        "coord-sheet 1\nending closed\ncost 6750000\nbound 6750000\nrelay R1 plug 1.00 dial 0.050\nend\n",
+    )?;
+    ends(
+        &rt,
+        ALONE,
+        "fault,relay,amps\nF1,R1,109\n",
+        3,
+        "no settings boxes 1\n",
+        NO_SETTINGS,
+    )?;
+    // capped at 20 times pickup: 13.5/19 s times the dial, the cost rounded up and the bound down
+    ends(
+        &rt,
+        ALONE,
+        "fault,relay,amps\nF1,R1,100000\n",
+        0,
+        "closed cost 35527 bound 35526 boxes 1\n",
+        "coord-sheet 1\nending closed\ncost 35527\nbound 35526\nrelay R1 plug 1.00 dial 0.050\nend\n",
+    )?;
+    Ok(())
+}
+
+#[test]
+fn a_table_of_another_form_says_the_same(rt: HostRuntime) -> Result<(), test::Fail> {
+    for currents in [
+        "fault,relay,amps\nF1,R2,1000\nF1,R1,1000\nF2,R1,1900\nF2,R2,0\n",
+        "\u{feff}fault,relay,amps\nF1,R2,1000\nF1,R1,1000\nF2,R1,1900\n",
+        "\"fault\",relay,amps\nF1,\"R2\",1000\n\"F1\",R1,\"1000\"\nF2,R1,001900\n",
+    ] {
+        ends(&rt, NETWORK, currents, 0, REPORT, SHEET)?;
+    }
+    Ok(())
+}
+
+#[test]
+fn files_of_the_disk_are_read_and_written(rt: HostRuntime) -> Result<(), test::Fail> {
+    let names = ["solve", "coord_run_n", "coord_run_t", "coord_run_s"];
+    for (name, text) in [("coord_run_n", NETWORK), ("coord_run_t", CURRENTS)] {
+        fs::write(&rt, name, text)?;
+    }
+    let mut folder = DiskFolder::new(&rt);
+    let (status, out) = call(&rt, &names, &mut folder, Vec::new(rt.alloc()))?;
+    let sheet = read_whole(rt.alloc(), &mut folder, "coord_run_s", 1_000)?;
+    for name in ["coord_run_n", "coord_run_t", "coord_run_s"] {
+        fs::remove_file(&rt, name)?;
+    }
+    assert_eq!(rt; out.bytes(), REPORT.as_bytes());
+    assert_eq!(rt; status, 0);
+    assert_eq!(rt; sheet.as_slice(), SHEET.as_bytes());
+    Ok(())
+}

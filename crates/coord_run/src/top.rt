@@ -1,0 +1,28 @@
+//! The whole call of the program.
+ghost use Rattle.std.specs.Prelude.{◌≡◌, map, string_bytes};
+ghost use Rattle.coord_run.specs.Outside.{folder_at, sink_at};
+ghost use Rattle.coord_run.specs.Run.{Does, usage_text};
+ghost use Rattle.coord_run.specs.Words.{solve_of};
+
+use crate::solve::{print, solve};
+use crate::words::solve_names;
+use coord_io::{Folder, Sink};
+use std::alloc::Global;
+
+/// The status where the words fit no command.
+const USAGE: u8 = 2;
+
+/// Does what the words after the program's name ask for, and answers the status.
+///
+/// `solve NETWORK CURRENTS SHEET` reads the network and the table of its fault currents, and writes the settings
+/// sheet. Its ending or its refusal is printed on the sink.
+pub fn run<F: Folder, K: Sink>(alloc: Global, words: &[String], folder: &mut F, out: &mut K) -> u8
+    ensures { Does (solve_of (map string_bytes words.now)) (folder_at F.files F.read_faults F.write_faults folder.old)
+        (folder_at F.files F.read_faults F.write_faults folder.new)
+        (sink_at K.written K.faults out.old) (sink_at K.written K.faults out.new) result }
+{
+    match solve_names(words) {
+        Some(names) => solve(alloc, folder, out, &names),
+        None => print(out, b"usage: coord solve NETWORK CURRENTS SHEET\n", USAGE),
+    }
+}
