@@ -2,6 +2,7 @@
 //! costs were worked out by hand.
 mod endings;
 mod faults;
+mod limits;
 mod refusals;
 
 use crate::top::run;

@@ -1,7 +1,7 @@
 use super::*;
 
 /// Asserts that the call is refused by this status and text, and leaves the files as they were.
-fn refuses(
+pub fn refuses(
     rt: &(impl AllocGlobal + Abort),
     network: &str,
     currents: &str,
