@@ -1,5 +1,6 @@
 -- The limits of a study and its currents, and how their numbers hang together (ours).
 use Rattle.std.specs.Prelude.{◌≡◌, ◌≢◌, ℕ, ◌-◌, ◌<◌, ◌≤◌, ◌⊎◌, List, length, sum_by, IsTrue, slice_get, All}
+use Rattle.std.specs.List.{AllPairs}
 use Rattle.coord_model.specs.Rows.{ends_at}
 use Rattle.coord_model.specs.StudyData.{StudyData}
 use Rattle.coord_model.specs.Time.{plug_at, dial_at}
@@ -46,7 +47,12 @@ pub record FitsExempt (study : StudyData) (exempt : Exempt) : Type 0 where
   pub backup : exempt.backup < length study.relays
   pub primary : exempt.primary < length study.relays
 
--- the study is within the limits, and its numbers name what is there
+-- two relays stand at the same end of a line
+pub record StandTogether (relay other : Relay) : Type 0 where
+  pub line : relay.line ≡ other.line
+  pub bus : relay.bus ≡ other.bus
+
+-- the study is within the limits, its numbers name what is there, and an end of a line has one relay at most
 pub record FitsStudy (study : StudyData) : Type 0 where
   pub cti_ms : IsBetween 1 study.cti_ms 10000
   pub sense : IsBetween 105 study.sense 500
@@ -60,6 +66,7 @@ pub record FitsStudy (study : StudyData) : Type 0 where
   pub pickup_steps : sum_by (λ relay. relay.plug_count) study.relays ≤ 3072
   pub lines : All (FitsLine study) study.lines
   pub relays : All (FitsRelay study) study.relays
+  pub apart : AllPairs (λ relay other. ¬ (StandTogether relay other)) study.relays
   pub faults : All (FitsFault study) study.faults
   pub exempt : All (FitsExempt study) study.exempt
 
