@@ -1,6 +1,5 @@
 pub mod Boxed
 pub mod Costs
-pub mod Counted
 pub mod Curves
 pub mod Division
 pub mod Filled
@@ -8,7 +7,6 @@ pub mod Kept
 pub mod Listed
 pub mod Looked
 pub mod Lowered
-pub mod Members
 pub mod Multiples
 pub mod Placed
 pub mod Places

@@ -12,7 +12,6 @@ mod given;
 mod instance;
 mod lowest;
 mod margin;
-mod pairs;
 mod price;
 mod rows;
 mod runs;
