@@ -6,18 +6,17 @@ use Rattle.coord_io.specs.Files.{Files, IsLonger, IsMissing, held}
 use Rattle.coord_model.specs.StudyData.{StudyData}
 use Rattle.coord_model.specs.declared.study.Current.{Current}
 use Rattle.coord_run.specs.Inputs.{AreInputs, HasTableFault, Holds, IsNetwork, IsTable, most_bytes}
-use Rattle.coord_io.specs.Faults.{Rose}
-use Rattle.coord_run.specs.Refusal.{input_name}
-use Rattle.std.specs.Prelude.{slice_get}
-use Rattle.std.specs.Option.{option_map}
 use Rattle.coord_run.specs.Outside.{FilesStay, Folder, IsAbsent, IsReadAlone, Told}
-use Rattle.coord_run.specs.Solve.{CameTo, HasCause, HasFileCause, HasTableCause, IsNetworkRefusal, IsTableRefusal, LacksNoPrimary, StopsFor}
-use Rattle.coord_run.specs.Words.{SolveNames}
-use Rattle.coord_run.specs.declared.refusal.Input.TheVariants as input
-use Rattle.coord_run.specs.declared.refusal.Refusal.{Refusal}
-use Rattle.coord_run.specs.declared.refusal.Refusal.TheVariants.{Missing, ReadFault, TooLong, Network, Table, NoPrimary, CurveNotBuilt, StepsNotBuilt, TooManyRows}
+use Rattle.coord_run.specs.Reading.{FileCause, InputsCause, IsRefusalOf, LacksNoPrimary, NamesFault, NetworkCause, TableCause}
+use Rattle.coord_run.specs.Stops.{StopsFor, within}
+use Rattle.coord_run.specs.declared.refusal.FileFault.{FileFault}
+use Rattle.coord_run.specs.declared.refusal.FileFault.TheVariants.{Missing, Failed, TooLong}
+use Rattle.coord_run.specs.declared.refusal.InputsRefusal.TheVariants as inputs
+use Rattle.coord_run.specs.declared.refusal.NetworkRefusal.TheVariants as network
 use Rattle.coord_run.specs.declared.refusal.Stop.{Stop}
 use Rattle.coord_run.specs.declared.refusal.Stop.TheVariants as stop
+use Rattle.coord_run.specs.declared.refusal.TableRefusal.{TableRefusal}
+use Rattle.coord_run.specs.declared.refusal.TableRefusal.TheVariants as table
 use Rattle.fault_table.specs.Table.{currents_of}
 use Rattle.fault_table.specs.declared.fault.TableFault.{TableFault}
 use Rattle.fault_table.specs.declared.fault.TableFault.TheVariants as fault
@@ -61,21 +60,12 @@ absent_last before between after name first absent = record {
   untold = λ is. rose_last before.reads between.reads after.reads first.reads (absent.untold is);
 }
 
--- a refusal about reading the network file
-pub network_read : (names : SolveNames) (before after : Folder) (stop : Stop) → StopsFor stop (HasFileCause before after input.Network names.network) → StopsFor stop (HasCause names before after)
-network_read names before after stop.NoMemory cause = tt
-network_read names before after (stop.Refused (Missing file)) cause =
-    subst (λ f. CameTo names before after f × IsAbsent before after (input_name names f)) (sym cause.0) (tt, cause.1)
-network_read names before after (stop.Refused (ReadFault file)) cause =
-    subst (λ f. CameTo names before after f × Rose before.reads after.reads) (sym cause.0) (tt, cause.1)
-network_read names before after (stop.Refused (TooLong file)) cause =
-    subst (λ f. CameTo names before after f × Told before after (λ m. IsLonger m (input_name names f) most_bytes)) (sym cause.0) (tt, cause.1)
-network_read names before after (stop.Refused (Network f)) cause = absurd cause
-network_read names before after (stop.Refused (Table f)) cause = absurd cause
-network_read names before after (stop.Refused (NoPrimary f)) cause = absurd cause
-network_read names before after (stop.Refused (CurveNotBuilt f)) cause = absurd cause
-network_read names before after (stop.Refused StepsNotBuilt) cause = absurd cause
-network_read names before after (stop.Refused TooManyRows) cause = absurd cause
+-- why a file was not read, behind an earlier reading
+pub file_last : (before between after : Folder) (name : List ℕ) (found : FileFault) → IsReadAlone before between
+    → FileCause between after name found → FileCause before after name found
+file_last before between after name Missing first cause = absent_last before between after name first cause
+file_last before between after name Failed first cause = rose_last before.reads between.reads after.reads first.reads cause
+file_last before between after name TooLong first cause = told_last before between after (λ m. IsLonger m name most_bytes) first.stay cause
 
 -- a fault other than want of memory is the reading's
 fails_is : (found : NetFault) (reading : Result StudyData NetFault) → found ≢ net.NoMemory → Fails found reading → reading ≡ Err found
@@ -86,70 +76,43 @@ fails_is (net.TooMany what limit) reading some fails = fails
 fails_is net.NoMemory reading some fails = absurd (some refl)
 
 -- a refusal for a fault of the network file
-pub network_faulty : (names : SolveNames) (before after : Folder) (bytes : List ℕ) (found : NetFault) (stop : Stop) → length bytes ≤ most_bytes
-    → Told before after (λ m. held m names.network ≡ Some bytes) → Fails found (network_of bytes) → StopsFor stop (IsNetworkRefusal found) → StopsFor stop (HasCause names before after)
-network_faulty names before after bytes found stop.NoMemory within read fails cause = tt
-network_faulty names before after bytes found (stop.Refused refusal) within read fails cause =
-    subst (λ r. HasCause names before after r) (sym cause.0)
-    (held_as before after names.network bytes (λ b. network_of b ≡ Err found) within read (fails_is found (network_of bytes) cause.1 fails))
-
--- a refusal about reading the currents table
-pub table_read : (names : SolveNames) (before after : Folder) (study : StudyData) (stop : Stop)
-    → StopsFor stop (HasFileCause before after input.Currents names.currents) → StopsFor stop (HasTableCause names before after study)
-table_read names before after study stop.NoMemory cause = tt
-table_read names before after study (stop.Refused (Missing file)) cause = cause
-table_read names before after study (stop.Refused (ReadFault file)) cause = cause
-table_read names before after study (stop.Refused (TooLong file)) cause = cause
-table_read names before after study (stop.Refused (Network f)) cause = absurd cause
-table_read names before after study (stop.Refused (Table f)) cause = absurd cause
-table_read names before after study (stop.Refused (NoPrimary f)) cause = absurd cause
-table_read names before after study (stop.Refused (CurveNotBuilt f)) cause = absurd cause
-table_read names before after study (stop.Refused StepsNotBuilt) cause = absurd cause
-table_read names before after study (stop.Refused TooManyRows) cause = absurd cause
+pub network_faulty : (before after : Folder) (name bytes : List ℕ) (found : NetFault) → length bytes ≤ most_bytes
+    → Told before after (λ m. held m name ≡ Some bytes) → found ≢ net.NoMemory → Fails found (network_of bytes) → NetworkCause before after name (network.Faulty found)
+network_faulty before after name bytes found within read some fails =
+    held_as before after name bytes (λ b. network_of b ≡ Err found) within read (fails_is found (network_of bytes) some fails)
 
 -- a refusal for a fault of the currents table
-pub table_faulty : (names : SolveNames) (before after : Folder) (study : StudyData) (bytes : List ℕ) (found : TableFault) (stop : Stop) → length bytes ≤ most_bytes
-    → Told before after (λ m. held m names.currents ≡ Some bytes) → (found ≢ fault.NoMemory → currents_of study bytes ≡ Err found)
-    → StopsFor stop (IsTableRefusal study found) → StopsFor stop (HasTableCause names before after study)
-table_faulty names before after study bytes found stop.NoMemory within read exact cause = tt
-table_faulty names before after study bytes found (stop.Refused refusal) within read exact cause = faulty refusal cause.1
+pub table_faulty : (before after : Folder) (name : List ℕ) (study : StudyData) (bytes : List ℕ) (found : TableFault) (stop : Stop TableRefusal) → length bytes ≤ most_bytes
+    → Told before after (λ m. held m name ≡ Some bytes) → (found ≢ fault.NoMemory → currents_of study bytes ≡ Err found)
+    → StopsFor stop (IsRefusalOf study found) → StopsFor stop (TableCause before after name study)
+table_faulty before after name study bytes found stop.NoMemory within read exact cause = tt
+table_faulty before after name study bytes found (stop.Refused refusal) within read exact cause = faulty refusal cause.1
   where
-    told : Told before after (λ m. HasTableFault m names.currents study found)
-    told = held_as before after names.currents bytes (λ b. currents_of study b ≡ Err found) within read (exact cause.0)
+    told : Told before after (λ m. HasTableFault m name study found)
+    told = held_as before after name bytes (λ b. currents_of study b ≡ Err found) within read (exact cause.0)
 
-    faulty : (r : Refusal) → (((r ≡ Table found) × LacksNoPrimary found) ⊎ ((number : ℕ) × (name : List ℕ) × (found ≡ fault.NoPrimary number) × (r ≡ NoPrimary name)
-        × (option_map (λ f. f.name) (slice_get study.faults number) ≡ Some name))) → HasTableCause names before after study r
-    faulty r (inl is) = subst (λ x. HasTableCause names before after study x) (sym is.0) (told, is.1)
-    faulty r (inr named) = subst (λ x. HasTableCause names before after study x) (sym named.3)
-        (named.0, subst (λ f. Told before after (λ m. HasTableFault m names.currents study f)) named.2 told, named.4)
+    faulty : (r : TableRefusal) → (((r ≡ table.Faulty found) × LacksNoPrimary found)
+        ⊎ ((number : ℕ) × (fault_name : List ℕ) × (found ≡ fault.NoPrimary number) × (r ≡ table.NoPrimary fault_name) × NamesFault study number fault_name)) → TableCause before after name study r
+    faulty r (inl is) = subst (λ x. TableCause before after name study x) (sym is.0) (told, is.1)
+    faulty r (inr named) = subst (λ x. TableCause before after name study x) (sym named.3)
+        (named.0, subst (λ f. Told before after (λ m. HasTableFault m name study f)) named.2 told, named.4)
+
+-- why the currents table was not read, behind an earlier reading
+table_last : (before between after : Folder) (name : List ℕ) (study : StudyData) (refusal : TableRefusal) → IsReadAlone before between
+    → TableCause between after name study refusal → TableCause before after name study refusal
+table_last before between after name study (table.Unread found) first cause = file_last before between after name found first cause
+table_last before between after name study (table.Faulty found) first cause =
+    (told_last before between after (λ m. HasTableFault m name study found) first.stay cause.0, cause.1)
+table_last before between after name study (table.NoPrimary fault_name) first cause =
+    (cause.0, told_last before between after (λ m. HasTableFault m name study (fault.NoPrimary cause.0)) first.stay cause.1, cause.2)
 
 -- a refusal about the currents table, behind the reading of the network file
-pub second_read : (names : SolveNames) (before between after : Folder) (study : StudyData) (stop : Stop)
-    → IsReadAlone before between → IsReadAlone between after → Told before between (λ m. IsNetwork m names.network study)
-    → StopsFor stop (HasTableCause names between after study) → StopsFor stop (HasCause names before after)
-second_read names before between after study stop.NoMemory first later network cause = tt
-second_read names before between after study (stop.Refused (Missing file)) first later network cause =
-    subst (λ f. CameTo names before after f × IsAbsent before after (input_name names f)) (sym cause.0)
-    ((study, told_first before between after _ network later.stay), absent_last before between after names.currents first cause.1)
-second_read names before between after study (stop.Refused (ReadFault file)) first later network cause =
-    subst (λ f. CameTo names before after f × Rose before.reads after.reads) (sym cause.0)
-    ((study, told_first before between after _ network later.stay), rose_last before.reads between.reads after.reads first.reads cause.1)
-second_read names before between after study (stop.Refused (TooLong file)) first later network cause =
-    subst (λ f. CameTo names before after f × Told before after (λ m. IsLonger m (input_name names f) most_bytes)) (sym cause.0)
-    ((study, told_first before between after _ network later.stay), told_last before between after (λ m. IsLonger m names.currents most_bytes) first.stay cause.1)
-second_read names before between after study (stop.Refused (Network f)) first later network cause = absurd cause
-second_read names before between after study (stop.Refused (Table f)) first later network cause =
-    (study, told_first before between after _ network later.stay, told_last before between after (λ m. HasTableFault m names.currents study f) first.stay cause.0, cause.1)
-second_read names before between after study (stop.Refused (NoPrimary name)) first later network cause = (
-  study,
-  cause.0,
-  told_first before between after _ network later.stay,
-  told_last before between after (λ m. HasTableFault m names.currents study (fault.NoPrimary cause.0)) first.stay cause.1,
-  cause.2,
-)
-second_read names before between after study (stop.Refused (CurveNotBuilt f)) first later network cause = absurd cause
-second_read names before between after study (stop.Refused StepsNotBuilt) first later network cause = absurd cause
-second_read names before between after study (stop.Refused TooManyRows) first later network cause = absurd cause
+pub second_read : (before between after : Folder) (network_name table_name : List ℕ) (study : StudyData) (stop : Stop TableRefusal)
+    → IsReadAlone before between → IsReadAlone between after → Told before between (λ m. IsNetwork m network_name study)
+    → StopsFor stop (TableCause between after table_name study) → StopsFor (within inputs.Table stop) (InputsCause before after network_name table_name)
+second_read before between after network_name table_name study stop.NoMemory first later one cause = tt
+second_read before between after network_name table_name study (stop.Refused refusal) first later one cause =
+    (study, told_first before between after (λ m. IsNetwork m network_name study) one later.stay, table_last before between after table_name study refusal first cause)
 
 -- both files as they are told over both readings
 pub inputs_told : (before between after : Folder) (network currents : List ℕ) (study : StudyData) (entries : List Current)

@@ -1,25 +1,22 @@
 -- A refusal's line and status (ours).
-use Rattle.std.specs.Prelude.{ℕ, List, [], ◌++◌, codes}
+use Rattle.std.specs.Prelude.{ℕ, List, ◌++◌, codes}
 use Rattle.std.specs.Fmt.{decimal}
-use Rattle.coord_model.specs.declared.kinds.What.TheVariants as what
 use Rattle.coord_run.specs.Inputs.{most_bytes}
-use Rattle.coord_run.specs.RefusalText.{curve_word, network_text, record_text, too_many_text}
-use Rattle.coord_run.specs.Words.{SolveNames}
-use Rattle.coord_run.specs.declared.refusal.Input.{Input}
-use Rattle.coord_run.specs.declared.refusal.Input.TheVariants as input
-use Rattle.coord_run.specs.declared.refusal.Refusal.{Refusal}
-use Rattle.coord_run.specs.declared.refusal.Refusal.TheVariants.{Missing, ReadFault, TooLong, Network, Table, NoPrimary, CurveNotBuilt, StepsNotBuilt, TooManyRows}
+use Rattle.coord_run.specs.RefusalText.{network_text, table_text}
+use Rattle.coord_run.specs.declared.refusal.FileFault.{FileFault}
+use Rattle.coord_run.specs.declared.refusal.FileFault.TheVariants.{Missing, Failed, TooLong}
+use Rattle.coord_run.specs.declared.refusal.InputsRefusal.{InputsRefusal}
+use Rattle.coord_run.specs.declared.refusal.InputsRefusal.TheVariants.{Network, Table}
+use Rattle.coord_run.specs.declared.refusal.NetworkRefusal.{NetworkRefusal}
+use Rattle.coord_run.specs.declared.refusal.NetworkRefusal.TheVariants as network
+use Rattle.coord_run.specs.declared.refusal.TableRefusal.{TableRefusal}
+use Rattle.coord_run.specs.declared.refusal.TableRefusal.TheVariants as table
 use Rattle.fault_table.specs.declared.fault.TableFault.{TableFault}
 use Rattle.fault_table.specs.declared.fault.TableFault.TheVariants as fault
 use Rattle.network_file.specs.declared.fault.NetFault.{NetFault}
 use Rattle.network_file.specs.declared.fault.NetFault.TheVariants as net
 
--- the word that names the input
-abbrev pub input_name : SolveNames → Input → List ℕ
-input_name names input.Network = names.network
-input_name names input.Currents = names.currents
-
--- a line about a file
+-- a line about a file or another name
 unfoldable pub file_text : List ℕ → List ℕ → List ℕ
 file_text label name = label ++ name ++ codes "\n"
 
@@ -27,57 +24,60 @@ file_text label name = label ++ name ++ codes "\n"
 unfoldable pub too_long_text : List ℕ → List ℕ
 too_long_text name = codes "too long: " ++ name ++ codes " " ++ decimal most_bytes ++ codes "\n"
 
--- the line of a fault of the currents table; a fault without primary current is told by its name instead
-abbrev pub table_text : TableFault → List ℕ
-table_text fault.BadHeader = codes "currents: bad-header\n"
-table_text (fault.BadRecord n) = record_text (codes "bad-record") n
-table_text (fault.UnknownFault n) = record_text (codes "unknown-fault") n
-table_text (fault.UnknownRelay n) = record_text (codes "unknown-relay") n
-table_text (fault.BadAmps n) = record_text (codes "bad-amps") n
-table_text (fault.DoubleEntry n) = record_text (codes "double-entry") n
-table_text (fault.TooMany limit) = too_many_text what.Currents limit
-table_text (fault.NoPrimary number) = []
-table_text fault.NoMemory = []
+-- the line and the status of a file that was not read
+abbrev pub unread_text : List ℕ → FileFault → List ℕ
+unread_text name Missing = file_text (codes "missing: ") name
+unread_text name Failed = file_text (codes "read fault: ") name
+unread_text name TooLong = too_long_text name
 
--- the line of a refusal
-abbrev pub refusal_text : SolveNames → Refusal → List ℕ
-refusal_text names (Missing file) = file_text (codes "missing: ") (input_name names file)
-refusal_text names (ReadFault file) = file_text (codes "read fault: ") (input_name names file)
-refusal_text names (TooLong file) = too_long_text (input_name names file)
-refusal_text names (Network fault) = network_text fault
-refusal_text names (Table fault) = table_text fault
-refusal_text names (NoPrimary name) = file_text (codes "currents: no-primary ") name
-refusal_text names (CurveNotBuilt curve) = file_text (codes "not built: curve ") (curve_word curve)
-refusal_text names StepsNotBuilt = codes "not built: steps\n"
-refusal_text names TooManyRows = too_many_text what.Rows 4096
+abbrev pub unread_status : FileFault → ℕ
+unread_status Missing = 9
+unread_status Failed = 10
+unread_status TooLong = 12
 
--- the status of a network fault, and of a fault of the currents table
-abbrev pub network_status : NetFault → ℕ
-network_status (net.TooMany of_what limit) = 15
-network_status net.NotText = 13
-network_status net.NotToml = 13
-network_status (net.At kind table index key) = 13
-network_status net.NoMemory = 30
+-- those of a network that was not read
+abbrev pub network_refusal_text : List ℕ → NetworkRefusal → List ℕ
+network_refusal_text name (network.Unread found) = unread_text name found
+network_refusal_text name (network.Faulty found) = network_text found
 
-abbrev pub table_status : TableFault → ℕ
-table_status (fault.TooMany limit) = 15
-table_status fault.BadHeader = 14
-table_status (fault.BadRecord n) = 14
-table_status (fault.UnknownFault n) = 14
-table_status (fault.UnknownRelay n) = 14
-table_status (fault.BadAmps n) = 14
-table_status (fault.DoubleEntry n) = 14
-table_status (fault.NoPrimary number) = 14
-table_status fault.NoMemory = 30
+abbrev pub network_fault_status : NetFault → ℕ
+network_fault_status (net.TooMany of_what limit) = 15
+network_fault_status net.NotText = 13
+network_fault_status net.NotToml = 13
+network_fault_status (net.At kind table index key) = 13
+network_fault_status net.NoMemory = 30
 
--- the status of a refusal
-abbrev pub refusal_status : Refusal → ℕ
-refusal_status (Missing file) = 9
-refusal_status (ReadFault file) = 10
-refusal_status (TooLong file) = 12
-refusal_status (Network fault) = network_status fault
-refusal_status (Table fault) = table_status fault
-refusal_status (NoPrimary name) = 14
-refusal_status (CurveNotBuilt curve) = 21
-refusal_status StepsNotBuilt = 21
-refusal_status TooManyRows = 15
+abbrev pub network_status : NetworkRefusal → ℕ
+network_status (network.Unread found) = unread_status found
+network_status (network.Faulty found) = network_fault_status found
+
+-- those of a currents table that was not read
+abbrev pub table_refusal_text : List ℕ → TableRefusal → List ℕ
+table_refusal_text name (table.Unread found) = unread_text name found
+table_refusal_text name (table.Faulty found) = table_text found
+table_refusal_text name (table.NoPrimary fault_name) = file_text (codes "currents: no-primary ") fault_name
+
+abbrev pub table_fault_status : TableFault → ℕ
+table_fault_status (fault.TooMany limit) = 15
+table_fault_status fault.BadHeader = 14
+table_fault_status (fault.BadRecord n) = 14
+table_fault_status (fault.UnknownFault n) = 14
+table_fault_status (fault.UnknownRelay n) = 14
+table_fault_status (fault.BadAmps n) = 14
+table_fault_status (fault.DoubleEntry n) = 14
+table_fault_status (fault.NoPrimary number) = 14
+table_fault_status fault.NoMemory = 30
+
+abbrev pub table_status : TableRefusal → ℕ
+table_status (table.Unread found) = unread_status found
+table_status (table.Faulty found) = table_fault_status found
+table_status (table.NoPrimary fault_name) = 14
+
+-- those of the two files
+abbrev pub inputs_text : List ℕ → List ℕ → InputsRefusal → List ℕ
+inputs_text network_name table_name (Network refusal) = network_refusal_text network_name refusal
+inputs_text network_name table_name (Table refusal) = table_refusal_text table_name refusal
+
+abbrev pub inputs_status : InputsRefusal → ℕ
+inputs_status (Network refusal) = network_status refusal
+inputs_status (Table refusal) = table_status refusal

@@ -10,6 +10,8 @@ use Rattle.coord_model.specs.declared.kinds.TableName.{TableName}
 use Rattle.coord_model.specs.declared.kinds.TableName.TheVariants as table
 use Rattle.coord_model.specs.declared.kinds.What.{What}
 use Rattle.coord_model.specs.declared.kinds.What.TheVariants as what
+use Rattle.fault_table.specs.declared.fault.TableFault.{TableFault}
+use Rattle.fault_table.specs.declared.fault.TableFault.TheVariants as fault
 use Rattle.network_file.specs.Words.{word_of}
 use Rattle.network_file.specs.declared.fault.NetFault.{NetFault}
 use Rattle.network_file.specs.declared.fault.NetFault.TheVariants.{NotText, NotToml, At, TooMany, NoMemory}
@@ -81,3 +83,15 @@ network_text NoMemory = []
 -- a fault of a record of the currents table
 unfoldable pub record_text : List ℕ → ℕ → List ℕ
 record_text kind n = codes "currents: " ++ kind ++ codes " " ++ decimal n ++ codes "\n"
+
+-- the line of a fault of the currents table; a fault without primary current is told by its name instead
+abbrev pub table_text : TableFault → List ℕ
+table_text fault.BadHeader = codes "currents: bad-header\n"
+table_text (fault.BadRecord n) = record_text (codes "bad-record") n
+table_text (fault.UnknownFault n) = record_text (codes "unknown-fault") n
+table_text (fault.UnknownRelay n) = record_text (codes "unknown-relay") n
+table_text (fault.BadAmps n) = record_text (codes "bad-amps") n
+table_text (fault.DoubleEntry n) = record_text (codes "double-entry") n
+table_text (fault.TooMany limit) = too_many_text what.Currents limit
+table_text (fault.NoPrimary number) = []
+table_text fault.NoMemory = []

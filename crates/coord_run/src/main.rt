@@ -4,8 +4,11 @@
 #![tactic(auto)]
 
 mod decide;
+mod fault_line;
 mod inputs;
 mod outcome;
+mod pairs;
+mod printing;
 mod refusal;
 mod refusal_line;
 mod report;
@@ -19,10 +22,8 @@ mod words;
 use coord_io::{DiskFolder, StdSink};
 use std::env;
 use std::process::ExitCode;
+use printing::NO_MEMORY;
 use top::run;
-
-/// The status where memory ran out.
-const NO_MEMORY: u8 = 30;
 
 fn main(rt: HostRuntime) -> ExitCode {
     let mut words = Vec::new(rt.alloc());

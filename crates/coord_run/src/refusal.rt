@@ -3,28 +3,45 @@ use coord_model::{CurveName, Name, NoMemory};
 use fault_table::TableFault;
 use network_file::NetFault;
 
-/// A file that `solve` reads.
+/// Why the bytes of a file were not read.
 #[derive(Clone, Copy)]
-pub enum Input {
-    Network,
-    Currents,
+pub enum FileFault {
+    /// The folder has no such file.
+    Missing,
+    /// The folder failed while the file was read.
+    Failed,
+    /// The file has more than 4 MiB.
+    TooLong,
 }
 
-/// Why a command ends before its work is done.
+/// Why no study was read from the network file.
 #[derive(Clone, Copy)]
-pub enum Refusal {
-    /// The folder has no such file.
-    Missing(Input),
-    /// The folder failed while the file was read.
-    ReadFault(Input),
-    /// The file has more than 4 MiB.
-    TooLong(Input),
-    /// The first fault of the network file.
-    Network(NetFault),
-    /// The first fault of the currents table.
-    Table(TableFault),
+pub enum NetworkRefusal {
+    Unread(FileFault),
+    /// The first fault of the file.
+    Faulty(NetFault),
+}
+
+/// Why no currents were read from the currents table.
+#[derive(Clone, Copy)]
+pub enum TableRefusal {
+    Unread(FileFault),
+    /// The first fault of the table, unless a fault of the study has no primary current.
+    Faulty(TableFault),
     /// No relay on its line has a current at the fault of this name.
     NoPrimary(Name),
+}
+
+/// Why the two files are no case to be coordinated.
+#[derive(Clone, Copy)]
+pub enum InputsRefusal {
+    Network(NetworkRefusal),
+    Table(TableRefusal),
+}
+
+/// Why a case comes to no ending.
+#[derive(Clone, Copy)]
+pub enum CaseRefusal {
     /// The curve of a relay is not built yet.
     CurveNotBuilt(CurveName),
     /// Several pickup or dial steps are not built yet.
@@ -33,20 +50,117 @@ pub enum Refusal {
     TooManyRows,
 }
 
-/// Why a step answers nothing: the command is refused, or memory ran out.
+/// Why `solve` comes to no ending.
 #[derive(Clone, Copy)]
-pub enum Stop {
-    Refused(Refusal),
+pub enum SolveRefusal {
+    Inputs(InputsRefusal),
+    Uncoordinated(CaseRefusal),
+}
+
+/// Why a step answers nothing: it is refused, or memory ran out.
+#[derive(Clone, Copy)]
+pub enum Stop<R> {
+    Refused(R),
     NoMemory,
 }
 
-impl From<NoMemory> for Stop {
+impl<R> From<NoMemory> for Stop<R> {
     ghost use Rattle.std.specs.Prelude.{◌≡◌};
     ghost use Rattle.coord_run.specs.declared.refusal.Stop.TheVariants as of;
 
     ghost from_gives = { λ _ stop. stop ≡ of.NoMemory };
 
-    fn from(_refused: NoMemory) -> Stop {
+    fn from(_refused: NoMemory) -> Stop<R> {
         Stop::NoMemory
+    }
+}
+
+impl From<Stop<FileFault>> for Stop<NetworkRefusal> {
+    ghost use Rattle.std.specs.Prelude.{◌≡◌};
+    ghost use Rattle.coord_run.specs.Stops.{within};
+    ghost use Rattle.coord_run.specs.declared.refusal.NetworkRefusal.TheVariants as of;
+
+    ghost from_gives = { λ stop made. made ≡ within of.Unread stop };
+
+    fn from(stop: Stop<FileFault>) -> Stop<NetworkRefusal> {
+        match stop {
+            Stop::Refused(refusal) => Stop::Refused(NetworkRefusal::Unread(refusal)),
+            Stop::NoMemory => Stop::NoMemory,
+        }
+    }
+}
+
+impl From<Stop<FileFault>> for Stop<TableRefusal> {
+    ghost use Rattle.std.specs.Prelude.{◌≡◌};
+    ghost use Rattle.coord_run.specs.Stops.{within};
+    ghost use Rattle.coord_run.specs.declared.refusal.TableRefusal.TheVariants as of;
+
+    ghost from_gives = { λ stop made. made ≡ within of.Unread stop };
+
+    fn from(stop: Stop<FileFault>) -> Stop<TableRefusal> {
+        match stop {
+            Stop::Refused(refusal) => Stop::Refused(TableRefusal::Unread(refusal)),
+            Stop::NoMemory => Stop::NoMemory,
+        }
+    }
+}
+
+impl From<Stop<NetworkRefusal>> for Stop<InputsRefusal> {
+    ghost use Rattle.std.specs.Prelude.{◌≡◌};
+    ghost use Rattle.coord_run.specs.Stops.{within};
+    ghost use Rattle.coord_run.specs.declared.refusal.InputsRefusal.TheVariants as of;
+
+    ghost from_gives = { λ stop made. made ≡ within of.Network stop };
+
+    fn from(stop: Stop<NetworkRefusal>) -> Stop<InputsRefusal> {
+        match stop {
+            Stop::Refused(refusal) => Stop::Refused(InputsRefusal::Network(refusal)),
+            Stop::NoMemory => Stop::NoMemory,
+        }
+    }
+}
+
+impl From<Stop<TableRefusal>> for Stop<InputsRefusal> {
+    ghost use Rattle.std.specs.Prelude.{◌≡◌};
+    ghost use Rattle.coord_run.specs.Stops.{within};
+    ghost use Rattle.coord_run.specs.declared.refusal.InputsRefusal.TheVariants as of;
+
+    ghost from_gives = { λ stop made. made ≡ within of.Table stop };
+
+    fn from(stop: Stop<TableRefusal>) -> Stop<InputsRefusal> {
+        match stop {
+            Stop::Refused(refusal) => Stop::Refused(InputsRefusal::Table(refusal)),
+            Stop::NoMemory => Stop::NoMemory,
+        }
+    }
+}
+
+impl From<Stop<InputsRefusal>> for Stop<SolveRefusal> {
+    ghost use Rattle.std.specs.Prelude.{◌≡◌};
+    ghost use Rattle.coord_run.specs.Stops.{within};
+    ghost use Rattle.coord_run.specs.declared.refusal.SolveRefusal.TheVariants as of;
+
+    ghost from_gives = { λ stop made. made ≡ within of.Inputs stop };
+
+    fn from(stop: Stop<InputsRefusal>) -> Stop<SolveRefusal> {
+        match stop {
+            Stop::Refused(refusal) => Stop::Refused(SolveRefusal::Inputs(refusal)),
+            Stop::NoMemory => Stop::NoMemory,
+        }
+    }
+}
+
+impl From<Stop<CaseRefusal>> for Stop<SolveRefusal> {
+    ghost use Rattle.std.specs.Prelude.{◌≡◌};
+    ghost use Rattle.coord_run.specs.Stops.{within};
+    ghost use Rattle.coord_run.specs.declared.refusal.SolveRefusal.TheVariants as of;
+
+    ghost from_gives = { λ stop made. made ≡ within of.Uncoordinated stop };
+
+    fn from(stop: Stop<CaseRefusal>) -> Stop<SolveRefusal> {
+        match stop {
+            Stop::Refused(refusal) => Stop::Refused(SolveRefusal::Uncoordinated(refusal)),
+            Stop::NoMemory => Stop::NoMemory,
+        }
     }
 }

@@ -1,23 +1,25 @@
 //! From a study and its currents to the texts that are written.
-ghost use Rattle.std.specs.Prelude.{◌≡◌, true, None, IfOk, IfErr};
+ghost use Rattle.std.specs.Prelude.{◌≡◌, true, None, List, IfOk, IfErr};
 ghost use Rattle.std.specs.List.{list_any};
 ghost use Rattle.coord_model.specs.Limits.{FitsCurrents, FitsStudy};
 ghost use Rattle.coord_model.specs.StudyData.{entries_of, study_data};
+ghost use Rattle.coord_model.specs.declared.study.Current.{Current};
 ghost use Rattle.coord_run.specs.Names.{names_data};
 ghost use Rattle.coord_run.specs.Outcome.{IsTrueOf, outcome_data, outcome_status, sheet_of};
-ghost use Rattle.coord_run.specs.Settlement.{IsCaseRefusal, IsSettlementOf, IsUnbuilt};
-ghost use Rattle.coord_run.specs.Solve.{StopsFor};
+ghost use Rattle.coord_run.specs.Settlement.{IsSettlementOf};
+ghost use Rattle.coord_run.specs.Solve.{CaseCause};
+ghost use Rattle.coord_run.specs.Stops.{StopsFor};
 ghost use Rattle.coord_run.specs.Steps.{IsBuilt, has_steps, unbuilt, unbuilt_curve};
 ghost use Rattle.margin_rows.specs.Case.{case_of};
 ghost use Rattle.settings_sheet.specs.SheetText.{IsSheet, sheet_data};
 
 use crate::decide::decide;
 use crate::outcome::Outcome;
-use crate::refusal::{Refusal, Stop};
+use crate::refusal::{CaseRefusal, Stop};
 use crate::refusal_line::file_line;
 use crate::report::report_bytes;
 use crate::words::Names;
-use coord_model::{Currents, CurveName, Ending, Relay, Study};
+use coord_model::{Currents, CurveName, Ending, NoMemory, Relay, Study};
 use margin_rows::{BuildFault, Instance, build};
 use settings_sheet::{Sheet, sheet_bytes};
 use std::alloc::Global;
@@ -38,25 +40,26 @@ pub fn settle(
     names: &Names<'_>,
     study: Study,
     currents: Currents,
-) -> Result<Settlement, Stop>
+) -> Result<Settlement, Stop<CaseRefusal>>
     requires study { FitsStudy (study_data study) }
     requires currents { FitsCurrents (study_data study) (entries_of currents) }
     ensures settled { IfOk result (IsSettlementOf (names_data names.now) (case_of study currents)) }
-    ensures stopped { IfErr result (λ stop. StopsFor stop (IsCaseRefusal (case_of study currents))) }
+    ensures stopped { IfErr result (λ stop. StopsFor stop (CaseCause (case_of study currents))) }
 {
-    require_built(&study)?;
+    if let Err(refusal) = require_built(&study) {
+        return Err(Stop::Refused(refusal));
+    }
     match build(alloc, study, currents) {
-        Ok(inst) => texts(alloc, names, &inst),
-        Err(BuildFault::TooManyRows { .. }) => Err(Stop::Refused(Refusal::TooManyRows)),
+        Ok(inst) => Ok(texts(alloc, names, &inst)?),
+        Err(BuildFault::TooManyRows { .. }) => Err(Stop::Refused(CaseRefusal::TooManyRows)),
         Err(BuildFault::NoMemory) => Err(Stop::NoMemory),
     }
 }
 
 /// The texts of what an instance comes to.
-fn texts(alloc: Global, names: &Names<'_>, inst: &Instance) -> Result<Settlement, Stop>
+fn texts(alloc: Global, names: &Names<'_>, inst: &Instance) -> Result<Settlement, NoMemory>
     requires { IsBuilt inst.now.study }
-    ensures settled { IfOk result (IsSettlementOf (names_data names.now) inst.now) }
-    ensures stopped { IfErr result (λ stop. stop ≡ Stop.NoMemory) }
+    ensures { IfOk result (IsSettlementOf (names_data names.now) inst.now) }
 {
     let outcome = decide(alloc, inst)?;
     let report = report_bytes(alloc, inst, &outcome)?;
@@ -113,15 +116,15 @@ fn status_of(outcome: &Outcome) -> u8
 }
 
 /// Refuses a study that is not built yet.
-fn require_built(study: &Study) -> Result<(), Stop>
+fn require_built(study: &Study) -> Result<(), CaseRefusal>
     ensures built { IfOk result (λ _. IsBuilt (study_data study.now)) }
-    ensures stopped { IfErr result (λ stop. StopsFor stop (IsUnbuilt (study_data study.now))) }
+    ensures refused { (entries : List Current) → IfErr result (CaseCause (record { study = study_data study.now; currents = entries })) }
 {
     if let Some(curve) = unbuilt_curve(study.relays.as_slice()) {
-        return Err(Stop::Refused(Refusal::CurveNotBuilt(curve)));
+        return Err(CaseRefusal::CurveNotBuilt(curve));
     }
     if have_steps(study.relays.as_slice()) {
-        return Err(Stop::Refused(Refusal::StepsNotBuilt));
+        return Err(CaseRefusal::StepsNotBuilt);
     }
     Ok(())
 }

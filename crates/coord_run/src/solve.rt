@@ -1,27 +1,25 @@
 //! The command `solve`.
-ghost use Rattle.std.specs.Prelude.{IfOk, IfErr, OnOk, OnErr};
+ghost use Rattle.std.specs.Prelude.{◌≡◌, ◌≤◌, IfOk, IfErr, OnOk, OnErr};
 ghost use Rattle.coord_io.specs.Faults.{Rose};
 ghost use Rattle.coord_io.specs.Files.{Becomes, StaysOrPart};
 ghost use Rattle.coord_io.specs.Goes.{Goes};
 ghost use Rattle.coord_run.specs.Names.{names_data};
-ghost use Rattle.coord_run.specs.Outside.{IsReadAlone, Prints, PrintsUnlessMemory, folder_at, sink_at};
-ghost use Rattle.coord_run.specs.Refusal.{refusal_status, refusal_text};
+ghost use Rattle.coord_run.specs.Outside.{IsReadAlone, folder_at, sink_at};
 ghost use Rattle.coord_run.specs.Settlement.{HandsOver, IsFound};
-ghost use Rattle.coord_run.specs.Solve.{HasCause, Solves, StopsFor};
+ghost use Rattle.coord_run.specs.Solve.{SolveCause, Solves};
+ghost use Rattle.coord_run.specs.SolveRefusal.{case_status, case_text, solve_status, solve_text};
+ghost use Rattle.coord_run.specs.Stops.{StopsFor};
 
+use crate::fault_line::{curve_word, too_many_line};
 use crate::inputs::read_inputs;
-use crate::refusal::{Refusal, Stop};
-use crate::refusal_line::{refusal_line, refusal_status};
+use crate::printing::{NO_MEMORY, WRITE_FAULT, print, refuse};
+use crate::refusal::{CaseRefusal, SolveRefusal, Stop};
+use crate::refusal_line::{file_line, inputs_line, inputs_status};
 use crate::settle::{Settlement, settle};
 use crate::words::Names;
-use coord_io::{Failed, Folder, Sink, append_whole, write_whole};
+use coord_io::{Failed, Folder, Sink, append_whole};
+use coord_model::{NoMemory, What};
 use std::alloc::Global;
-
-/// The status where a write failed.
-const WRITE_FAULT: u8 = 11;
-
-/// The status where memory ran out.
-const NO_MEMORY: u8 = 30;
 
 /// Reads the network and the currents, writes the sheet and prints the report, or the line of a refusal.
 ///
@@ -38,23 +36,25 @@ pub fn solve<F: Folder, K: Sink>(
 {
     match find(alloc, folder, names) {
         Ok(found) => hand_over(folder, out, names, &found),
-        Err(Stop::Refused(refusal)) => refuse(alloc, out, names, &refusal),
+        Err(Stop::Refused(refusal)) => {
+            refuse(out, solve_line(alloc, names, refusal), solve_status(refusal))
+        }
         Err(Stop::NoMemory) => NO_MEMORY,
     }
 }
 
 /// What is to be written, found before any file is started.
-fn find<F: Folder>(alloc: Global, folder: &mut F, names: &Names<'_>) -> Result<Settlement, Stop>
+fn find<F: Folder>(alloc: Global, folder: &mut F, names: &Names<'_>) -> Result<Settlement, Stop<SolveRefusal>>
     ensures found { IfOk result (IsFound (names_data names.now) (folder_at F.files F.read_faults F.write_faults folder.old)
         (folder_at F.files F.read_faults F.write_faults folder.new)) }
-    ensures stopped { IfErr result (λ stop. StopsFor stop (HasCause (names_data names.now)
+    ensures stopped { IfErr result (λ stop. StopsFor stop (SolveCause (names_data names.now)
         (folder_at F.files F.read_faults F.write_faults folder.old)
         (folder_at F.files F.read_faults F.write_faults folder.new))) }
     ensures alone { IsReadAlone (folder_at F.files F.read_faults F.write_faults folder.old)
         (folder_at F.files F.read_faults F.write_faults folder.new) }
 {
-    let (study, currents) = read_inputs(alloc, folder, names)?;
-    settle(alloc, names, study, currents)
+    let (study, currents) = read_inputs(alloc, folder, names.network, names.currents)?;
+    Ok(settle(alloc, names, study, currents)?)
 }
 
 /// Writes the sheet and prints the report, or the line of a write fault. It takes no memory.
@@ -84,23 +84,51 @@ fn put<F: Folder>(folder: &mut F, name: &str, bytes: &[u8]) -> Result<(), Failed
     append_whole(folder, name, bytes)
 }
 
-/// Prints the line of a refusal. Where memory for it runs out, nothing is printed.
-fn refuse<K: Sink>(alloc: Global, out: &mut K, names: &Names<'_>, refusal: &Refusal) -> u8
-    ensures { PrintsUnlessMemory (refusal_text (names_data names.now) refusal.now) (refusal_status refusal.now)
-        (sink_at K.written K.faults out.old) (sink_at K.written K.faults out.new) result }
+/// The line of a refusal.
+fn solve_line(
+    alloc: Global,
+    names: &Names<'_>,
+    refusal: SolveRefusal,
+) -> Result<Vec<u8>, NoMemory>
+    ensures { IfOk result (λ line. line.items ≡ solve_text (names_data names.now) refusal) }
 {
-    let Ok(line) = refusal_line(alloc, names, refusal) else {
-        return NO_MEMORY;
-    };
-    print(out, line.as_slice(), refusal_status(refusal))
+    match refusal {
+        SolveRefusal::Inputs(refusal) => {
+            inputs_line(alloc, names.network, names.currents, refusal)
+        }
+        SolveRefusal::Uncoordinated(refusal) => case_line(alloc, refusal),
+    }
 }
 
-/// Prints a text, and answers the status: its own, or 11 where printing failed.
-pub fn print<K: Sink>(out: &mut K, text: &[u8], status: u8) -> u8
-    ensures { Prints text.now status (sink_at K.written K.faults out.old) (sink_at K.written K.faults out.new) result }
+/// The status of a refusal.
+fn solve_status(refusal: SolveRefusal) -> u8
+    ensures { result ≡ solve_status refusal }
 {
-    match write_whole(out, text) {
-        Ok(()) => status,
-        Err(Failed) => WRITE_FAULT,
+    match refusal {
+        SolveRefusal::Inputs(refusal) => inputs_status(refusal),
+        SolveRefusal::Uncoordinated(refusal) => case_status(refusal),
+    }
+}
+
+/// The line of a case that comes to no ending.
+fn case_line(alloc: Global, refusal: CaseRefusal) -> Result<Vec<u8>, NoMemory>
+    ensures { IfOk result (λ line. line.items ≡ case_text refusal) }
+{
+    match refusal {
+        CaseRefusal::CurveNotBuilt(curve) => {
+            file_line(alloc, b"not built: curve ", curve_word(curve))
+        }
+        CaseRefusal::StepsNotBuilt => Ok(Vec::from_slice(alloc, b"not built: steps\n")?),
+        CaseRefusal::TooManyRows => too_many_line(alloc, What::Rows, 4_096),
+    }
+}
+
+/// The status of a case that comes to no ending.
+fn case_status(refusal: CaseRefusal) -> u8
+    ensures { result ≡ case_status refusal }
+{
+    match refusal {
+        CaseRefusal::CurveNotBuilt(_) | CaseRefusal::StepsNotBuilt => 21,
+        CaseRefusal::TooManyRows => 15,
     }
 }

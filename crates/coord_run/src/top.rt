@@ -4,7 +4,8 @@ ghost use Rattle.coord_run.specs.Outside.{folder_at, sink_at};
 ghost use Rattle.coord_run.specs.Run.{Does, usage_text};
 ghost use Rattle.coord_run.specs.Words.{solve_of};
 
-use crate::solve::{print, solve};
+use crate::printing::print;
+use crate::solve::solve;
 use crate::words::solve_names;
 use coord_io::{Folder, Sink};
 use std::alloc::Global;

@@ -1,4 +1,4 @@
-use Rattle.std.proofs.Common.{refl, ap, Err}
+use Rattle.std.proofs.Common.{ap, Err}
 use Rattle.coord_run.specs.Outside.{folder_at}
 use Rattle.coord_run.proofs.ReadingLaws.{absent_of}
 use Rattle.coord_run.proofs.inputs.read_file.Goals as goal
@@ -7,4 +7,4 @@ pub returns-in-Err-Missing-clause-stopped : goal.returns-in-Err-Missing-clause-s
 returns-in-Err-Missing-clause-stopped g c =
     let before = folder_at g.F.Folder.files g.F.Folder.read_faults g.F.Folder.write_faults c.args.folder.now in
     let after = folder_at g.F.Folder.files g.F.Folder.read_faults g.F.Folder.write_faults c.read_whole.new.folder in
-    (refl, absent_of before after c.args.name.now (c.in-Err-Missing.ensures.missing (ap Err c.in-Err-Missing.field-0-is)))
+    absent_of before after c.args.name.now (c.in-Err-Missing.ensures.missing (ap Err c.in-Err-Missing.field-0-is))
