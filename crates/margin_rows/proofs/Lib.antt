@@ -1,9 +1,9 @@
 pub mod Boxed
 pub mod Costs
 pub mod Curves
-pub mod Division
 pub mod Filled
 pub mod Kept
+pub mod Laws
 pub mod Listed
 pub mod Looked
 pub mod Lowered
@@ -12,6 +12,6 @@ pub mod Placed
 pub mod Places
 pub mod Ran
 pub mod Reached
-pub mod Separated
+pub mod Rising
 pub mod Timed
 pub mod WaitingRows
