@@ -36,7 +36,7 @@ one_step relay pickup dial none on = (grind (arith, nat_tests, on.pickup_step), 
 -- so each step of settings on the steps is the first
 first_steps : (study : StudyData) (a : Settings) (k : ℕ) → IsBuilt study → AreOnSteps study a → k < length study.relays → (get_or a.pickup k 0 ≡ 0) × (get_or a.dial k 0 ≡ 0)
 first_steps study a k built on within = elim (slice_get_cases study.relays k).1 as (λ _. (get_or a.pickup k 0 ≡ 0) × (get_or a.dial k 0 ≡ 0)) [
-  | inl found ↦ one_step found.0 (get_or a.pickup k 0) (get_or a.dial k 0) (none_has study.relays k found.0 built.steps found.2)
+  | inl found ↦ one_step found.0 (get_or a.pickup k 0) (get_or a.dial k 0) (none_has study.relays k found.0 built found.2)
       (let step : IfSome (slice_get study.relays k) (λ relay. IsOnSteps relay (slice_index a.pickup k) (slice_index a.dial k)) = on.steps k in rw found.2 at step)
   | inr past ↦ absurd (omega (arith, past.0, within))
 ]

@@ -7,12 +7,12 @@ use Rattle.coord_model.specs.StudyData.{StudyData}
 use Rattle.coord_model.specs.declared.study.Current.{Current}
 use Rattle.coord_run.specs.Inputs.{AreInputs, HasTableFault, Holds, IsNetwork, IsTable, most_bytes}
 use Rattle.coord_run.specs.Outside.{FilesStay, Folder, IsAbsent, IsReadAlone, Told}
-use Rattle.coord_run.specs.Reading.{FileCause, InputsCause, IsRefusalOf, LacksNoPrimary, NamesFault, NetworkCause, TableCause}
+use Rattle.coord_run.specs.Reading.{FileCause, InputsCause, IsNetworkRefusal, IsTableRefusal, LacksNoPrimary, NamesFault, NetworkCause, TableCause}
 use Rattle.coord_run.specs.Stops.{StopsFor, within}
 use Rattle.coord_run.specs.declared.refusal.FileFault.{FileFault}
 use Rattle.coord_run.specs.declared.refusal.FileFault.TheVariants.{Missing, Failed, TooLong}
 use Rattle.coord_run.specs.declared.refusal.InputsRefusal.TheVariants as inputs
-use Rattle.coord_run.specs.declared.refusal.NetworkRefusal.TheVariants as network
+use Rattle.coord_run.specs.declared.refusal.NetworkRefusal.{NetworkRefusal}
 use Rattle.coord_run.specs.declared.refusal.Stop.{Stop}
 use Rattle.coord_run.specs.declared.refusal.Stop.TheVariants as stop
 use Rattle.coord_run.specs.declared.refusal.TableRefusal.{TableRefusal}
@@ -76,15 +76,17 @@ fails_is (net.TooMany what limit) reading some fails = fails
 fails_is net.NoMemory reading some fails = absurd (some refl)
 
 -- a refusal for a fault of the network file
-pub network_faulty : (before after : Folder) (name bytes : List ℕ) (found : NetFault) → length bytes ≤ most_bytes
-    → Told before after (λ m. held m name ≡ Some bytes) → found ≢ net.NoMemory → Fails found (network_of bytes) → NetworkCause before after name (network.Faulty found)
-network_faulty before after name bytes found within read some fails =
-    held_as before after name bytes (λ b. network_of b ≡ Err found) within read (fails_is found (network_of bytes) some fails)
+pub network_faulty : (before after : Folder) (name bytes : List ℕ) (found : NetFault) (stop : Stop NetworkRefusal) → length bytes ≤ most_bytes
+    → Told before after (λ m. held m name ≡ Some bytes) → Fails found (network_of bytes) → StopsFor stop (IsNetworkRefusal found) → StopsFor stop (NetworkCause before after name)
+network_faulty before after name bytes found stop.NoMemory within_limit read fails cause = tt
+network_faulty before after name bytes found (stop.Refused refusal) within_limit read fails cause =
+    subst (λ r. NetworkCause before after name r) (sym cause.0)
+    (held_as before after name bytes (λ b. network_of b ≡ Err found) within_limit read (fails_is found (network_of bytes) cause.1 fails))
 
 -- a refusal for a fault of the currents table
 pub table_faulty : (before after : Folder) (name : List ℕ) (study : StudyData) (bytes : List ℕ) (found : TableFault) (stop : Stop TableRefusal) → length bytes ≤ most_bytes
     → Told before after (λ m. held m name ≡ Some bytes) → (found ≢ fault.NoMemory → currents_of study bytes ≡ Err found)
-    → StopsFor stop (IsRefusalOf study found) → StopsFor stop (TableCause before after name study)
+    → StopsFor stop (IsTableRefusal study found) → StopsFor stop (TableCause before after name study)
 table_faulty before after name study bytes found stop.NoMemory within read exact cause = tt
 table_faulty before after name study bytes found (stop.Refused refusal) within read exact cause = faulty refusal cause.1
   where

@@ -16,12 +16,18 @@ use Rattle.coord_run.specs.declared.refusal.TableRefusal.{TableRefusal}
 use Rattle.coord_run.specs.declared.refusal.TableRefusal.TheVariants as table
 use Rattle.fault_table.specs.declared.fault.TableFault.{TableFault}
 use Rattle.fault_table.specs.declared.fault.TableFault.TheVariants as fault
+use Rattle.network_file.specs.declared.fault.NetFault.{NetFault}
+use Rattle.network_file.specs.declared.fault.NetFault.TheVariants as net
 
 -- why the file of this name was not read
 abbrev pub FileCause : Folder → Folder → List ℕ → FileFault → Type 0
 FileCause before after name Missing = IsAbsent before after name
 FileCause before after name Failed = Rose before.reads after.reads
 FileCause before after name TooLong = Told before after (λ m. IsLonger m name most_bytes)
+
+-- the refusal is that of a fault of the network file, other than want of memory
+abbrev pub IsNetworkRefusal : NetFault → NetworkRefusal → Type 0
+IsNetworkRefusal found refusal = (refusal ≡ network.Faulty found) × (found ≢ net.NoMemory)
 
 -- why no study was read from the file of this name
 abbrev pub NetworkCause : Folder → Folder → List ℕ → NetworkRefusal → Type 0
@@ -37,8 +43,8 @@ abbrev pub NamesFault : StudyData → ℕ → List ℕ → Type 0
 NamesFault study number name = option_map (λ f. f.name) (slice_get study.faults number) ≡ Some name
 
 -- the refusal is that of a fault of the currents table, other than want of memory
-abbrev pub IsRefusalOf : StudyData → TableFault → TableRefusal → Type 0
-IsRefusalOf study found refusal =
+abbrev pub IsTableRefusal : StudyData → TableFault → TableRefusal → Type 0
+IsTableRefusal study found refusal =
     (found ≢ fault.NoMemory)
     × (((refusal ≡ table.Faulty found) × LacksNoPrimary found)
     ⊎ ((number : ℕ) × (name : List ℕ) × (found ≡ fault.NoPrimary number) × (refusal ≡ table.NoPrimary name) × NamesFault study number name))

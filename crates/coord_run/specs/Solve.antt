@@ -11,10 +11,10 @@ use Rattle.coord_run.specs.Reading.{InputsCause}
 use Rattle.coord_run.specs.Refusal.{file_text}
 use Rattle.coord_run.specs.Report.{report_text}
 use Rattle.coord_run.specs.SolveRefusal.{solve_status, solve_text}
-use Rattle.coord_run.specs.Steps.{IsBuilt, has_steps, unbuilt_curve}
+use Rattle.coord_run.specs.Steps.{IsBuilt, has_steps}
 use Rattle.coord_run.specs.Words.{SolveNames}
 use Rattle.coord_run.specs.declared.refusal.CaseRefusal.{CaseRefusal}
-use Rattle.coord_run.specs.declared.refusal.CaseRefusal.TheVariants.{CurveNotBuilt, StepsNotBuilt, TooManyRows}
+use Rattle.coord_run.specs.declared.refusal.CaseRefusal.TheVariants.{StepsNotBuilt, TooManyRows}
 use Rattle.coord_run.specs.declared.refusal.SolveRefusal.{SolveRefusal}
 use Rattle.coord_run.specs.declared.refusal.SolveRefusal.TheVariants.{Inputs, Uncoordinated}
 use Rattle.margin_rows.specs.Case.{Case, rows_in}
@@ -27,8 +27,7 @@ ReadAs names before after P =
 
 -- why a case comes to no ending
 abbrev pub CaseCause : Case → CaseRefusal → Type 0
-CaseCause case (CurveNotBuilt curve) = unbuilt_curve case.study.relays ≡ Some curve
-CaseCause case StepsNotBuilt = (unbuilt_curve case.study.relays ≡ None) × (list_any has_steps case.study.relays ≡ true)
+CaseCause case StepsNotBuilt = list_any has_steps case.study.relays ≡ true
 CaseCause case TooManyRows = IsBuilt case.study × (4096 < length (rows_in case))
 
 -- the refusal has its cause, and no earlier place refused

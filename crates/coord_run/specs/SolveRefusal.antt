@@ -1,22 +1,20 @@
 -- The line and the status of a refusal of `solve` (ours).
 use Rattle.std.specs.Prelude.{ℕ, List, codes}
 use Rattle.coord_model.specs.declared.kinds.What.TheVariants as what
-use Rattle.coord_run.specs.Refusal.{file_text, inputs_status, inputs_text}
-use Rattle.coord_run.specs.RefusalText.{curve_word, too_many_text}
+use Rattle.coord_run.specs.Refusal.{inputs_status, inputs_text}
+use Rattle.coord_run.specs.RefusalText.{too_many_text}
 use Rattle.coord_run.specs.Words.{SolveNames}
 use Rattle.coord_run.specs.declared.refusal.CaseRefusal.{CaseRefusal}
-use Rattle.coord_run.specs.declared.refusal.CaseRefusal.TheVariants.{CurveNotBuilt, StepsNotBuilt, TooManyRows}
+use Rattle.coord_run.specs.declared.refusal.CaseRefusal.TheVariants.{StepsNotBuilt, TooManyRows}
 use Rattle.coord_run.specs.declared.refusal.SolveRefusal.{SolveRefusal}
 use Rattle.coord_run.specs.declared.refusal.SolveRefusal.TheVariants.{Inputs, Uncoordinated}
 
 -- the line and the status of a case that comes to no ending
 abbrev pub case_text : CaseRefusal → List ℕ
-case_text (CurveNotBuilt curve) = file_text (codes "not built: curve ") (curve_word curve)
 case_text StepsNotBuilt = codes "not built: steps\n"
 case_text TooManyRows = too_many_text what.Rows 4096
 
 abbrev pub case_status : CaseRefusal → ℕ
-case_status (CurveNotBuilt curve) = 21
 case_status StepsNotBuilt = 21
 case_status TooManyRows = 15
 

@@ -1,9 +1,9 @@
 //! The lines of the faults of the two files, and their words.
 ghost use Rattle.std.specs.Prelude.{◌≡◌, ◌++◌, IfOk, OnOk};
 ghost use Rattle.std.specs.Fmt.{decimal};
-ghost use Rattle.coord_run.specs.RefusalText.{curve_word, key_text, kind_word, network_text, place_text, record_text, table_text, table_word, too_many_text, what_word};
+ghost use Rattle.coord_run.specs.RefusalText.{key_text, kind_word, network_text, place_text, record_text, table_text, table_word, too_many_text, what_word};
 
-use coord_model::{CurveName, Key, NetKind, NoMemory, TableName, What};
+use coord_model::{Key, NetKind, NoMemory, TableName, What};
 use coord_text::push_number;
 use fault_table::TableFault;
 use network_file::{NetFault, word};
@@ -142,18 +142,5 @@ fn what_word(what: What) -> &'static [u8]
         What::PickupSteps => b"pickup-steps",
         What::Currents => b"currents",
         What::Rows => b"rows",
-    }
-}
-
-pub fn curve_word(curve: CurveName) -> &'static [u8]
-    ensures { result.now ≡ curve_word curve }
-{
-    match curve {
-        CurveName::IecA => b"iec-a",
-        CurveName::IecB => b"iec-b",
-        CurveName::IecC => b"iec-c",
-        CurveName::IeeeMi => b"ieee-mi",
-        CurveName::IeeeVi => b"ieee-vi",
-        CurveName::IeeeEi => b"ieee-ei",
     }
 }

@@ -5,7 +5,7 @@ ghost use Rattle.coord_model.specs.Limits.{FitsCurrents, FitsStudy};
 ghost use Rattle.coord_model.specs.StudyData.{entries_of, study_data};
 ghost use Rattle.coord_run.specs.Inputs.{AreInputs, IsNetwork, IsTable};
 ghost use Rattle.coord_run.specs.Outside.{IsReadAlone, Told, folder_at};
-ghost use Rattle.coord_run.specs.Reading.{FileCause, InputsCause, IsRefusalOf, NamesFault, NetworkCause, TableCause};
+ghost use Rattle.coord_run.specs.Reading.{FileCause, InputsCause, IsNetworkRefusal, IsTableRefusal, NetworkCause, TableCause};
 ghost use Rattle.coord_run.specs.Stops.{StopsFor};
 
 use crate::refusal::{FileFault, InputsRefusal, NetworkRefusal, Stop, TableRefusal};
@@ -56,8 +56,17 @@ pub fn read_study<F: Folder>(
     let bytes = read_file(alloc, folder, name)?;
     match read_network(alloc, bytes.as_slice()) {
         Ok(study) => Ok(study),
-        Err(NetFault::NoMemory) => Err(Stop::NoMemory),
-        Err(fault) => Err(Stop::Refused(NetworkRefusal::Faulty(fault))),
+        Err(fault) => Err(network_stop(fault)),
+    }
+}
+
+/// Why a fault of the network file stops the work.
+fn network_stop(fault: NetFault) -> Stop<NetworkRefusal>
+    ensures { StopsFor result (IsNetworkRefusal fault) }
+{
+    match fault {
+        NetFault::NoMemory => Stop::NoMemory,
+        _ => Stop::Refused(NetworkRefusal::Faulty(fault)),
     }
 }
 
@@ -88,7 +97,7 @@ fn read_table<F: Folder>(
 /// Why a fault of the currents table stops the work.
 fn table_stop(study: &Study, fault: TableFault) -> Stop<TableRefusal>
     requires { (number : ℕ) → fault ≡ TableFault.NoPrimary number → number < length (study_data study.now).faults }
-    ensures { StopsFor result (IsRefusalOf (study_data study.now) fault) }
+    ensures { StopsFor result (IsTableRefusal (study_data study.now) fault) }
 {
     match fault {
         TableFault::NoMemory => Stop::NoMemory,

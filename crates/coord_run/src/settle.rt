@@ -1,15 +1,14 @@
 //! From a study and its currents to the texts that are written.
-ghost use Rattle.std.specs.Prelude.{◌≡◌, true, None, List, IfOk, IfErr};
+ghost use Rattle.std.specs.Prelude.{◌≡◌, IfOk, IfErr};
 ghost use Rattle.std.specs.List.{list_any};
 ghost use Rattle.coord_model.specs.Limits.{FitsCurrents, FitsStudy};
 ghost use Rattle.coord_model.specs.StudyData.{entries_of, study_data};
-ghost use Rattle.coord_model.specs.declared.study.Current.{Current};
 ghost use Rattle.coord_run.specs.Names.{names_data};
 ghost use Rattle.coord_run.specs.Outcome.{IsTrueOf, outcome_data, outcome_status, sheet_of};
 ghost use Rattle.coord_run.specs.Settlement.{IsSettlementOf};
 ghost use Rattle.coord_run.specs.Solve.{CaseCause};
 ghost use Rattle.coord_run.specs.Stops.{StopsFor};
-ghost use Rattle.coord_run.specs.Steps.{IsBuilt, has_steps, unbuilt, unbuilt_curve};
+ghost use Rattle.coord_run.specs.Steps.{IsBuilt, has_steps};
 ghost use Rattle.margin_rows.specs.Case.{case_of};
 ghost use Rattle.settings_sheet.specs.SheetText.{IsSheet, sheet_data};
 
@@ -19,7 +18,7 @@ use crate::refusal::{CaseRefusal, Stop};
 use crate::refusal_line::file_line;
 use crate::report::report_bytes;
 use crate::words::Names;
-use coord_model::{Currents, CurveName, Ending, NoMemory, Relay, Study};
+use coord_model::{Currents, Ending, NoMemory, Relay, Study};
 use margin_rows::{BuildFault, Instance, build};
 use settings_sheet::{Sheet, sheet_bytes};
 use std::alloc::Global;
@@ -46,8 +45,8 @@ pub fn settle(
     ensures settled { IfOk result (IsSettlementOf (names_data names.now) (case_of study currents)) }
     ensures stopped { IfErr result (λ stop. StopsFor stop (CaseCause (case_of study currents))) }
 {
-    if let Err(refusal) = require_built(&study) {
-        return Err(Stop::Refused(refusal));
+    if have_steps(study.relays.as_slice()) {
+        return Err(Stop::Refused(CaseRefusal::StepsNotBuilt));
     }
     match build(alloc, study, currents) {
         Ok(inst) => Ok(texts(alloc, names, &inst)?),
@@ -112,42 +111,6 @@ fn status_of(outcome: &Outcome) -> u8
         Outcome::Closed { .. } => 0,
         Outcome::NoSettings => 3,
         Outcome::Hairline { .. } => 7,
-    }
-}
-
-/// Refuses a study that is not built yet.
-fn require_built(study: &Study) -> Result<(), CaseRefusal>
-    ensures built { IfOk result (λ _. IsBuilt (study_data study.now)) }
-    ensures refused { (entries : List Current) → IfErr result (CaseCause (record { study = study_data study.now; currents = entries })) }
-{
-    if let Some(curve) = unbuilt_curve(study.relays.as_slice()) {
-        return Err(CaseRefusal::CurveNotBuilt(curve));
-    }
-    if have_steps(study.relays.as_slice()) {
-        return Err(CaseRefusal::StepsNotBuilt);
-    }
-    Ok(())
-}
-
-/// The curve of the first relay whose curve is not built.
-fn unbuilt_curve(relays: &[Relay]) -> Option<CurveName>
-    ensures { result ≡ unbuilt_curve relays.now }
-{
-    for relay in relays {
-        if let Some(curve) = unbuilt(relay.curve) {
-            return Some(curve);
-        }
-    }
-    None
-}
-
-/// The curve, unless it is built.
-fn unbuilt(curve: CurveName) -> Option<CurveName>
-    ensures { result ≡ unbuilt curve }
-{
-    match curve {
-        CurveName::IecB => None,
-        _ => Some(curve),
     }
 }
 

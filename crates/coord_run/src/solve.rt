@@ -10,11 +10,11 @@ ghost use Rattle.coord_run.specs.Solve.{SolveCause, Solves};
 ghost use Rattle.coord_run.specs.SolveRefusal.{case_status, case_text, solve_status, solve_text};
 ghost use Rattle.coord_run.specs.Stops.{StopsFor};
 
-use crate::fault_line::{curve_word, too_many_line};
+use crate::fault_line::too_many_line;
 use crate::inputs::read_inputs;
 use crate::printing::{NO_MEMORY, WRITE_FAULT, print, refuse};
 use crate::refusal::{CaseRefusal, SolveRefusal, Stop};
-use crate::refusal_line::{file_line, inputs_line, inputs_status};
+use crate::refusal_line::{inputs_line, inputs_status};
 use crate::settle::{Settlement, settle};
 use crate::words::Names;
 use coord_io::{Failed, Folder, Sink, append_whole};
@@ -37,7 +37,8 @@ pub fn solve<F: Folder, K: Sink>(
     match find(alloc, folder, names) {
         Ok(found) => hand_over(folder, out, names, &found),
         Err(Stop::Refused(refusal)) => {
-            refuse(out, solve_line(alloc, names, refusal), solve_status(refusal))
+            let line = solve_line(alloc, names, refusal);
+            refuse(out, line, solve_status(refusal))
         }
         Err(Stop::NoMemory) => NO_MEMORY,
     }
@@ -115,9 +116,6 @@ fn case_line(alloc: Global, refusal: CaseRefusal) -> Result<Vec<u8>, NoMemory>
     ensures { IfOk result (λ line. line.items ≡ case_text refusal) }
 {
     match refusal {
-        CaseRefusal::CurveNotBuilt(curve) => {
-            file_line(alloc, b"not built: curve ", curve_word(curve))
-        }
         CaseRefusal::StepsNotBuilt => Ok(Vec::from_slice(alloc, b"not built: steps\n")?),
         CaseRefusal::TooManyRows => too_many_line(alloc, What::Rows, 4_096),
     }
@@ -128,7 +126,7 @@ fn case_status(refusal: CaseRefusal) -> u8
     ensures { result ≡ case_status refusal }
 {
     match refusal {
-        CaseRefusal::CurveNotBuilt(_) | CaseRefusal::StepsNotBuilt => 21,
+        CaseRefusal::StepsNotBuilt => 21,
         CaseRefusal::TooManyRows => 15,
     }
 }

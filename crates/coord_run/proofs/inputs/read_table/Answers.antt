@@ -1,4 +1,4 @@
-use Rattle.std.proofs.Common.{◌≡◌, Ok, rules}
+use Rattle.std.proofs.Common.{◌≡◌, Ok}
 use Rattle.coord_model.specs.StudyData.{entries_of, study_data}
 use Rattle.fault_table.specs.Table.{currents_of}
 use Rattle.coord_run.specs.Outside.{folder_at}
