@@ -72,24 +72,24 @@ fn network_fault_status(fault: NetFault) -> u8
 fn table_refusal_line(
     alloc: Global,
     name: &str,
-    refusal: TableRefusal,
+    refusal: &TableRefusal,
 ) -> Result<Vec<u8>, NoMemory>
-    ensures { IfOk result (λ line. line.items ≡ table_refusal_text name.now refusal) }
+    ensures { IfOk result (λ line. line.items ≡ table_refusal_text name.now refusal.now) }
 {
     match refusal {
-        TableRefusal::Unread(fault) => unread_line(alloc, name, fault),
-        TableRefusal::Faulty(fault) => table_line(alloc, fault),
+        TableRefusal::Unread(fault) => unread_line(alloc, name, *fault),
+        TableRefusal::Faulty(fault) => table_line(alloc, *fault),
         TableRefusal::NoPrimary(name) => file_line(alloc, b"currents: no-primary ", name.bytes()),
     }
 }
 
 /// The status of a currents table that was not read.
-fn table_status(refusal: TableRefusal) -> u8
-    ensures { result ≡ table_status refusal }
+fn table_status(refusal: &TableRefusal) -> u8
+    ensures { result ≡ table_status refusal.now }
 {
     match refusal {
-        TableRefusal::Unread(fault) => unread_status(fault),
-        TableRefusal::Faulty(fault) => table_fault_status(fault),
+        TableRefusal::Unread(fault) => unread_status(*fault),
+        TableRefusal::Faulty(fault) => table_fault_status(*fault),
         TableRefusal::NoPrimary(_) => 14,
     }
 }
@@ -109,22 +109,22 @@ pub fn inputs_line(
     alloc: Global,
     network: &str,
     currents: &str,
-    refusal: InputsRefusal,
+    refusal: &InputsRefusal,
 ) -> Result<Vec<u8>, NoMemory>
-    ensures { IfOk result (λ line. line.items ≡ inputs_text network.now currents.now refusal) }
+    ensures { IfOk result (λ line. line.items ≡ inputs_text network.now currents.now refusal.now) }
 {
     match refusal {
-        InputsRefusal::Network(refusal) => network_refusal_line(alloc, network, refusal),
+        InputsRefusal::Network(refusal) => network_refusal_line(alloc, network, *refusal),
         InputsRefusal::Table(refusal) => table_refusal_line(alloc, currents, refusal),
     }
 }
 
 /// The status of two files that were not read.
-pub fn inputs_status(refusal: InputsRefusal) -> u8
-    ensures { result ≡ inputs_status refusal }
+pub fn inputs_status(refusal: &InputsRefusal) -> u8
+    ensures { result ≡ inputs_status refusal.now }
 {
     match refusal {
-        InputsRefusal::Network(refusal) => network_status(refusal),
+        InputsRefusal::Network(refusal) => network_status(*refusal),
         InputsRefusal::Table(refusal) => table_status(refusal),
     }
 }

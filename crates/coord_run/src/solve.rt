@@ -37,8 +37,8 @@ pub fn solve<F: Folder, K: Sink>(
     match find(alloc, folder, names) {
         Ok(found) => hand_over(folder, out, names, &found),
         Err(Stop::Refused(refusal)) => {
-            let line = solve_line(alloc, names, refusal);
-            refuse(out, line, solve_status(refusal))
+            let line = solve_line(alloc, names, &refusal);
+            refuse(out, line, solve_status(&refusal))
         }
         Err(Stop::NoMemory) => NO_MEMORY,
     }
@@ -89,25 +89,25 @@ fn put<F: Folder>(folder: &mut F, name: &str, bytes: &[u8]) -> Result<(), Failed
 fn solve_line(
     alloc: Global,
     names: &Names<'_>,
-    refusal: SolveRefusal,
+    refusal: &SolveRefusal,
 ) -> Result<Vec<u8>, NoMemory>
-    ensures { IfOk result (λ line. line.items ≡ solve_text (names_data names.now) refusal) }
+    ensures { IfOk result (λ line. line.items ≡ solve_text (names_data names.now) refusal.now) }
 {
     match refusal {
         SolveRefusal::Inputs(refusal) => {
             inputs_line(alloc, names.network, names.currents, refusal)
         }
-        SolveRefusal::Uncoordinated(refusal) => case_line(alloc, refusal),
+        SolveRefusal::Uncoordinated(refusal) => case_line(alloc, *refusal),
     }
 }
 
 /// The status of a refusal.
-fn solve_status(refusal: SolveRefusal) -> u8
-    ensures { result ≡ solve_status refusal }
+fn solve_status(refusal: &SolveRefusal) -> u8
+    ensures { result ≡ solve_status refusal.now }
 {
     match refusal {
         SolveRefusal::Inputs(refusal) => inputs_status(refusal),
-        SolveRefusal::Uncoordinated(refusal) => case_status(refusal),
+        SolveRefusal::Uncoordinated(refusal) => case_status(*refusal),
     }
 }
 
