@@ -1,3 +1,4 @@
+pub mod Box
 pub mod Case
 pub mod FirstBox
 pub mod Given

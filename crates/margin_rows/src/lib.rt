@@ -14,8 +14,10 @@ mod lowest;
 mod margin;
 mod pairs;
 mod price;
+mod ranges;
 mod rows;
 mod runs;
+mod span;
 mod spans;
 mod tables;
 mod terms;
@@ -25,6 +27,8 @@ pub use instance::{Instance, build};
 pub use lowest::lowest_choice;
 pub use margin::{loose_row, strict_ok, strict_row};
 pub use price::{cost, lower_cost};
+pub use ranges::Ranges;
+pub use span::Span;
 
 #[cfg(test)]
 mod tests;
