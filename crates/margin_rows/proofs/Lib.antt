@@ -17,4 +17,5 @@ pub mod Rising
 pub mod Spanned
 pub mod Timed
 pub mod WaitingRows
+pub mod Widths
 pub mod Written

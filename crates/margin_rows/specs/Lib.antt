@@ -2,6 +2,7 @@ pub mod Box
 pub mod Case
 pub mod Dial
 pub mod FirstBox
+pub mod Gap
 pub mod Given
 pub mod Halves
 pub mod Margin

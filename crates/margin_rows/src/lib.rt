@@ -9,6 +9,7 @@
 mod dial;
 mod enclose;
 mod fault;
+mod gap;
 mod given;
 mod instance;
 mod lowest;
@@ -24,6 +25,7 @@ mod terms;
 
 pub use dial::dial_at;
 pub use fault::BuildFault;
+pub use gap::least_gap;
 pub use instance::{Instance, build};
 pub use lowest::lowest_choice;
 pub use margin::{loose_row, strict_ok, strict_row};
