@@ -11,6 +11,7 @@ pub mod Lowered
 pub mod Multiples
 pub mod Placed
 pub mod Places
+pub mod Raising
 pub mod Ran
 pub mod Reached
 pub mod Rising

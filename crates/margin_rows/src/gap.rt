@@ -9,9 +9,7 @@ ghost use Rattle.margin_rows.specs.Price.{cost_of, lower_cost_of};
 
 use crate::dial::dial_at;
 use crate::instance::Instance;
-
-/// The picoseconds of a microsecond.
-const PICOSECONDS: u128 = 1_000_000;
+use crate::price::PICOSECONDS;
 
 /// The least gap of a study, in whole weighted microseconds.
 ///
