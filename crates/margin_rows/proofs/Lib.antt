@@ -1,6 +1,7 @@
 pub mod Boxed
 pub mod Costs
 pub mod Curves
+pub mod Dialled
 pub mod Filled
 pub mod Kept
 pub mod Laws
@@ -10,8 +11,12 @@ pub mod Lowered
 pub mod Multiples
 pub mod Placed
 pub mod Places
+pub mod Raising
 pub mod Ran
 pub mod Reached
 pub mod Rising
+pub mod Spanned
 pub mod Timed
 pub mod WaitingRows
+pub mod Widths
+pub mod Written

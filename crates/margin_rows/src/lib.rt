@@ -6,24 +6,34 @@
 //! best is left to others.
 #![tactic(auto)]
 
+mod dial;
 mod enclose;
 mod fault;
+mod gap;
 mod given;
 mod instance;
+mod least;
 mod lowest;
 mod margin;
 mod price;
+mod ranges;
 mod rows;
 mod runs;
+mod span;
 mod spans;
 mod tables;
 mod terms;
 
+pub use dial::dial_at;
 pub use fault::BuildFault;
+pub use gap::least_gap;
 pub use instance::{Instance, build};
+pub use least::strict_least;
 pub use lowest::lowest_choice;
 pub use margin::{loose_row, strict_ok, strict_row};
 pub use price::{cost, lower_cost};
+pub use ranges::Ranges;
+pub use span::Span;
 
 #[cfg(test)]
 mod tests;

@@ -1,0 +1,62 @@
+-- A box (ours): for each relay a span of pickup steps and a span of dial steps.
+use Rattle.std.specs.Prelude.{◌≡◌, ℕ, suc, ◌<◌, ◌≤◌, ◌↔◌, List, length, slice_get, slice_index, IfSome, IsSomeAnd}
+use Rattle.std.proofs.Common.{set}
+use Rattle.coord_model.specs.Choice.{Settings}
+use Rattle.margin_rows.specs.Case.{Case}
+use Rattle.margin_rows.specs.FirstBox.{IsFirstStep}
+use Rattle.margin_rows.specs.declared.span.Span.{Span}
+use Rattle.margin_rows.specs.declared.span.Steps.{Steps}
+
+-- the spans of the relays, in study order
+pub record Box : Type 0 where
+  pub pickup : List Steps
+  pub dial : List Steps
+
+-- the step lies in the span, which ends before `past`
+pub record IsIn (span : Steps) (step : ℕ) : Type 0 where
+  pub from : span.low ≤ step
+  pub before : step < span.past
+
+-- the span has no step
+abbrev pub IsEmpty : Steps → Type 0
+IsEmpty span = span.past ≤ span.low
+
+-- the span as its first and its last step; of an empty one the first lies above the last
+pub record IsShownAs (span : Steps) (shown : Span) : Type 0 where
+  pub steps : span.low < span.past → (shown.lo ≡ span.low) × (suc shown.hi ≡ span.past)
+  pub none : IsEmpty span → shown.hi < shown.lo
+
+-- there is one step for each span, and it lies in it
+pub record AreIn (spans : List Steps) (steps : List ℕ) : Type 0 where
+  pub count : length steps ≡ length spans
+  pub each : (i : ℕ) → IfSome (slice_get spans i) (λ span. IsIn span (slice_index steps i))
+
+-- the settings lie in the box
+pub record LiesIn (box : Box) (settings : Settings) : Type 0 where
+  pub pickup : AreIn box.pickup settings.pickup
+  pub dial : AreIn box.dial settings.dial
+
+-- the relay has this dial step
+abbrev pub IsDialStep : Case → ℕ → ℕ → Type 0
+IsDialStep case relay step = IsSomeAnd (slice_get case.study.relays relay) (λ r. step < r.dial_count)
+
+-- the box has a span of each kind for each relay, with no step outside the first box
+pub record FitsBox (case : Case) (box : Box) : Type 0 where
+  pub pickups : length box.pickup ≡ length case.study.relays
+  pub dials : length box.dial ≡ length case.study.relays
+  pub pickup : (i step : ℕ) → IfSome (slice_get box.pickup i) (λ span. IsIn span step → IsFirstStep case i step)
+  pub dial : (i step : ℕ) → IfSome (slice_get box.dial i) (λ span. IsIn span step → IsDialStep case i step)
+
+-- the box is the first: it has each pickup step that is sensible, and each dial step
+pub record IsFirstBox (case : Case) (box : Box) : Type 0 where
+  pub pickups : length box.pickup ≡ length case.study.relays
+  pub dials : length box.dial ≡ length case.study.relays
+  pub pickup : (i step : ℕ) → IfSome (slice_get box.pickup i) (λ span. IsIn span step ↔ IsFirstStep case i step)
+  pub dial : (i step : ℕ) → IfSome (slice_get box.dial i) (λ span. IsIn span step ↔ IsDialStep case i step)
+
+-- the box with another span of pickup steps, or of dial steps, for one relay
+abbrev pub with_pickup : Box → ℕ → Steps → Box
+with_pickup box relay span = record { pickup = set box.pickup relay span; dial = box.dial }
+
+abbrev pub with_dial : Box → ℕ → Steps → Box
+with_dial box relay span = record { pickup = box.pickup; dial = set box.dial relay span }
