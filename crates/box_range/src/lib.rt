@@ -1,0 +1,6 @@
+//! The tight box: what is left of a box once no choice at an end of a span is of use.
+//!
+//! Spans are of steps, pickup steps and dial steps. Which box is tightened, and what becomes of it, is left to others.
+#![tactic(auto)]
+
+mod kind;
