@@ -4,3 +4,4 @@
 #![tactic(auto)]
 
 mod kind;
+mod row;
