@@ -5,3 +5,4 @@ pub mod Laws
 pub mod Places
 pub mod Dials
 pub mod Meets
+pub mod Cuts

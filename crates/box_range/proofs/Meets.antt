@@ -209,6 +209,15 @@ best_with_better Backup Dial box row steps is = let b = best_is_better box row s
 best_with_better Primary Pickup box row steps is = let b = best_is_better box row steps is in record { backup_pickup = b.backup_pickup; backup_dial = b.backup_dial; primary_pickup = omega arith; primary_dial = b.primary_dial }
 best_with_better Primary Dial box row steps is = let b = best_is_better box row steps is in record { backup_pickup = b.backup_pickup; backup_dial = b.backup_dial; primary_pickup = b.primary_pickup; primary_dial = omega arith }
 
+-- a higher step of the backup is better, and so is a lower one of the primary
+higher_better : (kind : Kind) (steps : RowSteps) (s t : ℕ) → s ≤ t → AreBetter (with_step Backup kind steps s) (with_step Backup kind steps t)
+higher_better Pickup steps s t le = record { backup_pickup = le; backup_dial = omega arith; primary_pickup = omega arith; primary_dial = omega arith }
+higher_better Dial steps s t le = record { backup_pickup = omega arith; backup_dial = le; primary_pickup = omega arith; primary_dial = omega arith }
+
+lower_better : (kind : Kind) (steps : RowSteps) (s t : ℕ) → t ≤ s → AreBetter (with_step Primary kind steps s) (with_step Primary kind steps t)
+lower_better Pickup steps s t le = record { backup_pickup = omega arith; backup_dial = omega arith; primary_pickup = le; primary_dial = omega arith }
+lower_better Dial steps s t le = record { backup_pickup = omega arith; backup_dial = omega arith; primary_pickup = omega arith; primary_dial = le }
+
 module _ (case : Case) (box : Box) (row : Row) (filled : IsFilled case box) (there : Contains (rows_in case) row) where
   relays : HasRelays box row
   relays = relay_counts case box row filled.fits there
@@ -225,10 +234,10 @@ module _ (case : Case) (box : Box) (row : Row) (filled : IsFilled case box) (the
       let found = meets_settings case box row (best_steps box row) filled.steps relays (relays_apart case row there) (best_in_box box row filled.steps relays) meets in
       record { settings = found.0; lies = found.1; meets = found.3 }
 
-  pub meetable_best : FitsCase case → IsMeetable case box row → MeetsWith case row (best_steps box row)
-  meetable_best fits m =
+  pub meetable_best : IsMeetable case box row → MeetsWith case row (best_steps box row)
+  meetable_best m =
       let is = settings_in_box box row m.settings relays m.lies in
-      better_meets case row (steps_at m.settings row) (best_steps box row) fits there (in_box_first case box row (steps_at m.settings row) filled.fits relays is) best_first
+      better_meets case row (steps_at m.settings row) (best_steps box row) filled.limits there (in_box_first case box row (steps_at m.settings row) filled.fits relays is) best_first
       (best_is_better box row (steps_at m.settings row) is) m.meets
 
   pub with_can : (part : Part) (kind : Kind) (step : ℕ) → IsIn (span_at kind box (relay_of part row)) step
@@ -250,11 +259,42 @@ module _ (case : Case) (box : Box) (row : Row) (filled : IsFilled case box) (the
   pub can_in : (part : Part) (kind : Kind) (step : ℕ) → CanMeet case box kind (relay_of part row) step row → IsIn (span_at kind box (relay_of part row)) step
   can_in part kind step m = rw m.has at (lies_at box m.settings kind (relay_of part row) m.lies (relay_below part kind))
 
-  pub can_with : FitsCase case → (part : Part) (kind : Kind) (step : ℕ) → CanMeet case box kind (relay_of part row) step row → MeetsWith case row (with_step part kind (best_steps box row) step)
-  can_with fits part kind step m =
+  pub can_with : (part : Part) (kind : Kind) (step : ℕ) → CanMeet case box kind (relay_of part row) step row → MeetsWith case row (with_step part kind (best_steps box row) step)
+  can_with part kind step m =
       let steps = steps_at m.settings row in
       let is = settings_in_box box row m.settings relays m.lies in
       let has : step_for part kind steps ≡ step = sym (step_for_is part kind m.settings row) ∙ m.has in
       let better = subst (λ (s : ℕ). AreBetter steps (with_step part kind (best_steps box row) s)) has (best_with_better part kind box row steps is) in
-      better_meets case row steps (with_step part kind (best_steps box row) step) fits there (in_box_first case box row steps filled.fits relays is)
+      better_meets case row steps (with_step part kind (best_steps box row) step) filled.limits there (in_box_first case box row steps filled.fits relays is)
       (with_first part kind step (can_in part kind step m)) better m.meets
+
+  pub meetable_at : (part : Part) (kind : Kind) (m : IsMeetable case box row) → CanMeet case box kind (relay_of part row) (step_of kind m.settings (relay_of part row)) row
+  meetable_at part kind m = record { settings = m.settings; lies = m.lies; has = refl; meets = m.meets }
+
+  pub can_rise : (kind : Kind) (s t : ℕ) → s ≤ t → t < (span_at kind box row.backup).past → CanMeet case box kind row.backup s row → CanMeet case box kind row.backup t row
+  can_rise kind s t le before m =
+      let is_s = can_in Backup kind s m in
+      let is_t : IsIn (span_at kind box row.backup) t = record { from = omega (arith, is_s.from, le); before = before } in
+      let best = best_steps box row in
+      with_can Backup kind t is_t (better_meets case row (with_step Backup kind best s) (with_step Backup kind best t) filled.limits there
+      (with_first Backup kind s is_s) (with_first Backup kind t is_t) (higher_better kind best s t le) (can_with Backup kind s m))
+
+  pub can_fall : (kind : Kind) (s t : ℕ) → t ≤ s → (span_at kind box row.primary).low ≤ t → CanMeet case box kind row.primary s row → CanMeet case box kind row.primary t row
+  can_fall kind s t le from m =
+      let is_s = can_in Primary kind s m in
+      let is_t : IsIn (span_at kind box row.primary) t = record { from = from; before = omega (arith, is_s.before, le) } in
+      let best = best_steps box row in
+      with_can Primary kind t is_t (better_meets case row (with_step Primary kind best s) (with_step Primary kind best t) filled.limits there
+      (with_first Primary kind s is_s) (with_first Primary kind t is_t) (lower_better kind best s t le) (can_with Primary kind s m))
+
+  -- a row that can be met can be met with the highest step of the backup, and with the lowest of the primary
+  pub meets_highest : (kind : Kind) → IsMeetable case box row → CanMeet case box kind row.backup ((span_at kind box row.backup).past - 1) row
+  meets_highest kind m =
+      let at = meetable_at Backup kind m in
+      let is = can_in Backup kind (step_of kind m.settings row.backup) at in
+      can_rise kind (step_of kind m.settings row.backup) ((span_at kind box row.backup).past - 1) (omega (arith, is.before)) (omega (arith, is.before)) at
+
+  pub meets_lowest : (kind : Kind) → IsMeetable case box row → CanMeet case box kind row.primary (span_at kind box row.primary).low row
+  meets_lowest kind m =
+      let at = meetable_at Primary kind m in
+      can_fall kind (step_of kind m.settings row.primary) (span_at kind box row.primary).low (can_in Primary kind (step_of kind m.settings row.primary) at).from (omega arith) at

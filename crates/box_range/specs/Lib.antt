@@ -1,3 +1,4 @@
 pub mod Kinds
 pub mod Drops
 pub mod Meeting
+pub mod Settled

@@ -6,7 +6,7 @@ use Rattle.coord_model.specs.StudyData.{StudyData}
 use Rattle.coord_model.specs.Time.{dial_at}
 use Rattle.coord_model.specs.declared.study.Row.{Row}
 use Rattle.margin_rows.specs.Box.{Box, FitsBox, LiesIn, IsDialStep}
-use Rattle.margin_rows.specs.Case.{Case, rows_in}
+use Rattle.margin_rows.specs.Case.{Case, rows_in, FitsCase}
 use Rattle.margin_rows.specs.FirstBox.{IsFirstStep}
 use Rattle.margin_rows.specs.Margin.{interval_ps, MeetsLoosely}
 use Rattle.margin_rows.specs.Times.{time_at}
@@ -21,8 +21,9 @@ use Rattle.box_range.specs.declared.row.RowSteps.{RowSteps}
 abbrev pub HasRow : Case → ℕ → Row → Type 0
 HasRow case number row = slice_get (rows_in case) number ≡ Some row
 
--- the box lies in the first box and has a step in each span
+-- the case is within the limits, and the box lies in its first box and has a step in each span
 pub record IsFilled (case : Case) (box : Box) : Type 0 where
+  pub limits : FitsCase case
   pub fits : FitsBox case box
   pub steps : HasSteps box
 

@@ -3,5 +3,6 @@
 //! Spans are of steps, pickup steps and dial steps. Which box is tightened, and what becomes of it, is left to others.
 #![tactic(auto)]
 
+mod ends;
 mod kind;
 mod row;

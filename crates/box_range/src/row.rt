@@ -1,7 +1,6 @@
 //! Whether a row can be met: its two relays and their steps.
 ghost use Rattle.std.specs.Prelude.{◌≡◌, ◌<◌, ◌≤◌, ◌^◌, ◌↔◌, length, IsTrue};
 ghost use Rattle.margin_rows.specs.Box.{IsIn, IsDialStep};
-ghost use Rattle.margin_rows.specs.Case.{FitsCase};
 ghost use Rattle.margin_rows.specs.Margin.{interval_ps};
 ghost use Rattle.box_range.specs.Drops.{CanMeet};
 ghost use Rattle.box_range.specs.Kinds.{spans_of, span_at, HasSteps};
@@ -99,8 +98,7 @@ fn with_primary(steps: RowSteps, kind: Kind, step: u16) -> RowSteps
 fn meets(inst: &Instance, at: Place, steps: RowSteps) -> bool
     requires place { HasRow inst.now at.number at.row }
     requires steps { AreFirst inst.now at.row steps }
-    ensures exact { IsTrue result ↔ MeetsWith inst.now at.row steps }
-    ensures fits { FitsCase inst.now }
+    ensures { IsTrue result ↔ MeetsWith inst.now at.row steps }
 {
     let (backup, primary) = inst.row_times(at.number, steps.backup_pickup, steps.primary_pickup);
     let latest = dial(inst, at.row.backup, steps.backup_dial) * backup.1;
@@ -122,7 +120,6 @@ fn dial(inst: &Instance, relay: u16, step: u16) -> u64
 fn interval_ps(inst: &Instance) -> u64
     ensures exact { result ≡ interval_ps inst.now.study }
     ensures small { result < 2 ^ 54 }
-    ensures fits { FitsCase inst.now }
 {
     u64::from(inst.study().cti_ms) * 1_000_000_000
 }
