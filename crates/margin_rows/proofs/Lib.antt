@@ -2,6 +2,7 @@ pub mod Boxed
 pub mod Costs
 pub mod Counted
 pub mod Curves
+pub mod Dialled
 pub mod Division
 pub mod Filled
 pub mod Kept
@@ -15,5 +16,7 @@ pub mod Places
 pub mod Ran
 pub mod Reached
 pub mod Separated
+pub mod Spanned
 pub mod Timed
 pub mod WaitingRows
+pub mod Written

@@ -2,6 +2,7 @@ pub mod Box
 pub mod Case
 pub mod FirstBox
 pub mod Given
+pub mod Halves
 pub mod Margin
 pub mod Price
 pub mod Reach

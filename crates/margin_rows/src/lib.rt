@@ -6,6 +6,7 @@
 //! best is left to others.
 #![tactic(auto)]
 
+mod dial;
 mod enclose;
 mod fault;
 mod given;
@@ -22,6 +23,7 @@ mod spans;
 mod tables;
 mod terms;
 
+pub use dial::dial_at;
 pub use fault::BuildFault;
 pub use instance::{Instance, build};
 pub use lowest::lowest_choice;

@@ -1,11 +1,13 @@
 //! Boxes: for each relay a span of pickup steps and a span of dial steps.
 ghost use Rattle.std.specs.Prelude.{◌≡◌, ℕ, ◌<◌, ◌≤◌, ◌↔◌, length, slice_get, IfOk, IfSome, IsTrue, IsSomeAnd};
 ghost use Rattle.coord_model.specs.Choice.{choice_data};
-ghost use Rattle.margin_rows.specs.Box.{IsShownAs, IsIn, AreIn, IsDialStep, LiesIn, IsFirstBox, with_pickup, with_dial};
+ghost use Rattle.margin_rows.specs.Box.{IsShownAs, IsIn, AreIn, IsDialStep, LiesIn, FitsBox, IsFirstBox, with_pickup, with_dial};
+ghost use Rattle.margin_rows.specs.Case.{Case, FitsCase};
 ghost use Rattle.margin_rows.specs.FirstBox.{IsFirstStep};
+ghost use Rattle.margin_rows.specs.Halves.{HasNext, AreHalves, ShareOut};
 
 use crate::instance::Instance;
-use crate::span::{Span, Steps, shown};
+use crate::span::{Span, Steps, halves, shown};
 use coord_model::{Choice, NoMemory};
 use std::alloc::Global;
 use std::marker::Model;
@@ -30,7 +32,8 @@ impl Ranges {
 
     /// The first box: each pickup step that senses the currents that count and clears the load, and each dial step.
     pub fn first(alloc: Global, inst: &Instance) -> Result<Ranges, NoMemory>
-        ensures { IfOk result (IsFirstBox inst.now) }
+        ensures exact { IfOk result (IsFirstBox inst.now) }
+        ensures fits { IfOk result (FitsBox inst.now) }
     {
         Ok(Ranges {
             pickup: first_pickups(alloc, inst)?,
@@ -86,6 +89,26 @@ impl Ranges {
             dial: self.dial.clone()?,
         })
     }
+
+    /// The two halves of the box, cut between a pickup step of a relay and the next one.
+    ///
+    /// The first has the relay's pickup steps up to `at`, the second those above it.
+    pub fn split(&self, relay: u16, at: u16) -> Result<(Ranges, Ranges), NoMemory>
+        requires relay { relay < length self.now.pickup }
+        requires at { IsSomeAnd (slice_get self.now.pickup relay) (λ span. HasNext span at) }
+
+        ensures exact { IfOk result (λ halves. AreHalves self.now relay at halves.0 halves.1) }
+        ensures shared { IfOk result (λ halves. ShareOut self.now halves.0 halves.1) }
+        ensures low_fits { IfOk result (λ halves. (case : Case) → FitsBox case self.now → FitsBox case halves.0) }
+        ensures high_fits { IfOk result (λ halves. (case : Case) → FitsBox case self.now → FitsBox case halves.1) }
+    {
+        let (low, high) = halves(self.pickup[usize::from(relay)], at);
+        let mut lower = self.copy()?;
+        let mut upper = self.copy()?;
+        lower.set_pickup(relay, low.low, low.past);
+        upper.set_pickup(relay, high.low, high.past);
+        Ok((lower, upper))
+    }
 }
 
 /// Whether there is a step for each span, and lies in it.
@@ -104,8 +127,9 @@ fn first_pickups(alloc: Global, inst: &Instance) -> Result<Vec<Steps>, NoMemory>
     ensures count { IfOk result (λ spans. length spans.items ≡ length inst.now.study.relays) }
     ensures each { IfOk result (λ spans. (i step : ℕ) → IfSome (slice_get spans.items i) (λ span. IsIn span step ↔ IsFirstStep inst.now i step)) }
 {
+    let relays = inst.study().relays.len() as u16;
     let mut spans = Vec::new(alloc);
-    for relay in 0..inst.study().relays.len() as u16 {
+    for relay in 0..relays {
         spans.push(first_steps(inst, relay))?;
     }
     Ok(spans)
@@ -113,7 +137,8 @@ fn first_pickups(alloc: Global, inst: &Instance) -> Result<Vec<Steps>, NoMemory>
 
 /// The pickup steps of a relay in the first box.
 fn first_steps(inst: &Instance, relay: u16) -> Steps
-    requires { relay < length inst.now.study.relays }
+    requires fits { FitsCase inst.now }
+    requires relay { relay < length inst.now.study.relays }
     ensures { (step : ℕ) → IsIn result step ↔ IsFirstStep inst.now relay step }
 {
     match inst.first_pickups(relay) {

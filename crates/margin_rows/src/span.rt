@@ -1,5 +1,7 @@
 //! Spans of steps.
+ghost use Rattle.std.specs.Prelude.{◌≡◌};
 ghost use Rattle.margin_rows.specs.Box.{IsShownAs};
+ghost use Rattle.margin_rows.specs.Halves.{HasNext, up_to, above};
 
 /// The steps from `lo` to `hi`, both included; none where `lo` is above `hi`.
 #[derive(Clone, Copy)]
@@ -27,4 +29,23 @@ pub fn shown(span: Steps) -> Span
     } else {
         Span { lo: 1, hi: 0 }
     }
+}
+
+/// The span up to a step, and the span above it.
+pub fn halves(span: Steps, at: u16) -> (Steps, Steps)
+    requires { HasNext span at }
+
+    ensures low { result.0 ≡ up_to span at }
+    ensures high { result.1 ≡ above span at }
+{
+    let next = at + 1;
+    let low = Steps {
+        low: span.low,
+        past: next,
+    };
+    let high = Steps {
+        low: next,
+        past: span.past,
+    };
+    (low, high)
 }
