@@ -3,6 +3,7 @@ pub mod Within
 pub mod Order
 pub mod Laws
 pub mod Places
-pub mod Dials
 pub mod Meets
+pub mod Shown
 pub mod Cuts
+pub mod Narrowed

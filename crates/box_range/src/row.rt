@@ -1,14 +1,14 @@
 //! Whether a row can be met: its two relays and their steps.
 ghost use Rattle.std.specs.Prelude.{◌≡◌, ◌<◌, ◌≤◌, ◌^◌, ◌↔◌, length, IsTrue};
-ghost use Rattle.margin_rows.specs.Box.{IsIn, IsDialStep};
+ghost use Rattle.margin_rows.specs.Box.{IsIn};
 ghost use Rattle.margin_rows.specs.Margin.{interval_ps};
 ghost use Rattle.box_range.specs.Drops.{CanMeet};
 ghost use Rattle.box_range.specs.Kinds.{spans_of, span_at, HasSteps};
-ghost use Rattle.box_range.specs.Meeting.{HasRow, IsFilled, IsMeetable, AreFirst, MeetsWith, HasRelays, relay_of, best_steps, with_step, dial_of_step};
+ghost use Rattle.box_range.specs.Meeting.{HasRow, IsFilled, IsMeetable, AreFirst, MeetsWith, HasRelays, relay_of, best_steps, with_step};
 
 use crate::kind::{Kind, span};
 use coord_model::Row;
-use margin_rows::{Instance, Ranges};
+use margin_rows::{Instance, Ranges, dial_at};
 
 /// A row and its number.
 #[derive(Clone, Copy)]
@@ -101,19 +101,9 @@ fn meets(inst: &Instance, at: Place, steps: RowSteps) -> bool
     ensures { IsTrue result ↔ MeetsWith inst.now at.row steps }
 {
     let (backup, primary) = inst.row_times(at.number, steps.backup_pickup, steps.primary_pickup);
-    let latest = dial(inst, at.row.backup, steps.backup_dial) * backup.1;
-    let earliest = dial(inst, at.row.primary, steps.primary_dial) * primary.0;
+    let latest = dial_at(inst, at.row.backup, steps.backup_dial) * backup.1;
+    let earliest = dial_at(inst, at.row.primary, steps.primary_dial) * primary.0;
     earliest + interval_ps(inst) <= latest
-}
-
-/// The dial of a relay at a step, in thousandths.
-fn dial(inst: &Instance, relay: u16, step: u16) -> u64
-    requires { IsDialStep inst.now relay step }
-    ensures exact { result ≡ dial_of_step inst.now.study relay step }
-    ensures small { result ≤ 15000 }
-{
-    let relay = &inst.study().relays[usize::from(relay)];
-    u64::from(relay.dial_first) + u64::from(step) * u64::from(relay.dial_step)
 }
 
 /// The coordination interval, in picoseconds.
