@@ -122,6 +122,10 @@ cut_high case box row kind past fits there from to unmet =
         lies_narrowed kind box row.primary (record { low = span.low; past = past }) settings below h (record { from = is.from; before = left });
     }
 
+pub both_kinds : (P : Kind → Type 0) → P Pickup → P Dial → (kind : Kind) → P kind
+both_kinds P pickup dial Pickup = pickup
+both_kinds P pickup dial Dial = dial
+
 pub uncut : (case : Case) (row : Row) (box : Box) → IsCut case row box box
 uncut case row box = record { drops = none; kept = λ settings h meets. h }
 

@@ -7,3 +7,4 @@ pub mod Meets
 pub mod Shown
 pub mod Cuts
 pub mod Narrowed
+pub mod Looked

@@ -2,3 +2,4 @@ pub mod Kinds
 pub mod Drops
 pub mod Meeting
 pub mod Settled
+pub mod Looks

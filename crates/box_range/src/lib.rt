@@ -5,4 +5,5 @@
 
 mod ends;
 mod kind;
+mod look;
 mod row;
