@@ -43,7 +43,7 @@ pickup_first case settings i box below =
 pub set_enclosed : (case : Case) (settings : Settings) (f i : ℕ) → FitsCase case → IsInFirstBox case settings → IsUsed case.study case.currents f i → i < length case.study.relays
     → IsEnclosed case f i (slice_index settings.pickup i)
 set_enclosed case settings f i fits box used below =
-    enclosed case f i (slice_index settings.pickup i) fits.study fits.currents fits.curves
+    enclosed case f i (slice_index settings.pickup i) fits.study fits.currents
     (first_is_timed case f i (slice_index settings.pickup i) used (pickup_first case settings i box below))
 
 pub set_terms : (case : Case) (settings : Settings) → FitsCase case → IsInFirstBox case settings → AreSet case settings

@@ -8,11 +8,11 @@ use Rattle.std.proofs.lemmas.List.Elements.{All-head, All-tail}
 use Rattle.std.proofs.lemmas.List.Sums.{sum_by-cons}
 use Rattle.coord_model.specs.Allowed.{dial_of}
 use Rattle.coord_model.specs.Choice.{Settings}
+use Rattle.coord_model.proofs.Quotients.{floor_within, ceil_covers}
 use Rattle.coord_model.specs.Cost.{CostsAtLeast, CostsAtMost, weight_of, weighted_sum}
 use Rattle.margin_rows.specs.Case.{Case, terms_in}
 use Rattle.margin_rows.specs.Margin.{time_of}
 use Rattle.margin_rows.specs.Price.{cost_of, lower_cost_of, greatest_sum, least_sum}
-use Rattle.margin_rows.proofs.Division.{floor_le, ceil_ge}
 use Rattle.margin_rows.proofs.Kept.{over_least, under_most}
 use Rattle.margin_rows.proofs.Timed.{IsEnclosed}
 
@@ -43,7 +43,7 @@ costs_at_least case settings set q n some over =
     ≤ (weight_of case.study term.fault * dial_of case.study settings term.relay * n term) * 10 ^ 9) (terms_in case) =
     λ k d h. weighted _ _ _ _ _ _ (over_least case settings _ _ _ q (set k d h) (over k d h)) in
     let sums : least_sum case settings * q ≤ weighted_sum case.study case.currents settings n * 10 ^ 9 = sums_le _ _ q (10 ^ 9) (terms_in case) each in
-    plain (least_sum case settings / 1000000) (least_sum case settings) (weighted_sum case.study case.currents settings n) q sums (floor_le (least_sum case settings) 1000000)
+    plain (least_sum case settings / 1000000) (least_sum case settings) (weighted_sum case.study case.currents settings n) q sums (floor_within (least_sum case settings) 1000000)
   where
     plain : (c s t q : ℕ) → s * q ≤ t * 1000000000 → c * 1000000 ≤ s → c * q ≤ 1000 * t
     plain c s t q sums rounded =
@@ -58,7 +58,7 @@ costs_at_most case settings set q n some under =
     ≤ (weight_of case.study term.fault * dial_of case.study settings term.relay * (time_of case settings term.fault term.relay).upper) * q) (terms_in case) =
     λ k d h. weighted _ _ _ _ _ _ (under_most case settings _ _ _ q (set k d h) (under k d h)) in
     let sums : weighted_sum case.study case.currents settings n * 10 ^ 9 ≤ greatest_sum case settings * q = sums_le _ _ (10 ^ 9) q (terms_in case) each in
-    plain (div_ceil (greatest_sum case settings) 1000000) (greatest_sum case settings) (weighted_sum case.study case.currents settings n) q sums (ceil_ge (greatest_sum case settings) 1000000 (omega arith))
+    plain (div_ceil (greatest_sum case settings) 1000000) (greatest_sum case settings) (weighted_sum case.study case.currents settings n) q sums (ceil_covers (greatest_sum case settings) 1000000 (omega arith))
   where
     plain : (c s t q : ℕ) → t * 1000000000 ≤ s * q → s ≤ c * 1000000 → 1000 * t ≤ c * q
     plain c s t q sums rounded =

@@ -2,6 +2,7 @@
 use Rattle.std.proofs.Common.{◌≡◌, ℕ, ◌+◌, ◌*◌, ◌^◌, ◌≤◌, Some, arith}
 use Rattle.std.specs.Prelude.{slice_get, slice_index}
 use Rattle.std.proofs.Math.Nat.{mul-le-mul_left, mul-le-mul_right, le_of_mul-le-mul_left}
+use Rattle.coord_model.proofs.OrderLaws.{under_is_at_most_over}
 use Rattle.coord_model.specs.Allowed.{IsOverTime, IsUnderTime, KeepsInterval, dial_of}
 use Rattle.coord_model.specs.Choice.{Settings}
 use Rattle.coord_model.specs.Form.{form_of}
@@ -11,24 +12,22 @@ use Rattle.coord_model.specs.declared.study.Relay.{Relay}
 use Rattle.coord_model.specs.declared.study.Row.{Row}
 use Rattle.margin_rows.specs.Case.{Case}
 use Rattle.margin_rows.specs.Margin.{time_of, MeetsLoosely, MeetsStrictly}
-use Rattle.margin_rows.proofs.Separated.{separated}
-use Rattle.margin_rows.proofs.Timed.{IsEnclosed, curve_some}
+use Rattle.margin_rows.proofs.Curves.{is_falling}
+use Rattle.margin_rows.proofs.Timed.{IsEnclosed}
 
 -- a number over the time is at least its lower end
 pub over_least : (case : Case) (settings : Settings) (f i n q : ℕ) → IsEnclosed case f i (slice_index settings.pickup i)
     → IsOverTime case.study case.currents settings f i n q → (time_of case settings f i).lower * q ≤ n * 10 ^ 9
 over_least case settings f i n q set over =
     let here = rw set.found at over in
-    let some = curve_some set.relay.curve in
-    separated _ _ (time_of case settings f i).lower (10 ^ 9) n q set.num set.den some.0 some.1 set.under here
+    under_is_at_most_over.ordered _ _ (time_of case settings f i).lower (10 ^ 9) n q (is_falling set.relay.curve) set.enclosable set.under here
 
 -- a number under the time is at most its upper end
 pub under_most : (case : Case) (settings : Settings) (f i n q : ℕ) → IsEnclosed case f i (slice_index settings.pickup i)
     → IsUnderTime case.study case.currents settings f i n q → n * 10 ^ 9 ≤ (time_of case settings f i).upper * q
 under_most case settings f i n q set under =
     let here = rw set.found at under in
-    let some = curve_some set.relay.curve in
-    separated _ _ n q (time_of case settings f i).upper (10 ^ 9) set.num set.den some.0 some.1 here set.over
+    under_is_at_most_over.ordered _ _ n q (time_of case settings f i).upper (10 ^ 9) (is_falling set.relay.curve) set.enclosable here set.over
 
 over_there : (case : Case) (settings : Settings) (f i n q : ℕ) (relay : Relay) → slice_get case.study.relays i ≡ Some relay
     → IsOver (form_of relay.curve) (capped case.study.cap (sensed_multiple relay (slice_index settings.pickup i) (amps_at case.currents f i))) n q

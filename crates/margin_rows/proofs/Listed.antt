@@ -7,7 +7,7 @@ use Rattle.coord_model.specs.Rows.{is_primary, waits, terms_at, rows_at, rows_be
 use Rattle.coord_model.specs.declared.study.Row.{Row}
 use Rattle.coord_model.specs.declared.study.Term.{Term}
 use Rattle.margin_rows.specs.Case.{Case, rows_in, terms_in}
-use Rattle.margin_rows.proofs.Members.{member_map, map_member, member_filter, filter_member, member_flat_map, flat_map_member, member_number, number_member}
+use Rattle.relay_pairs.proofs.Members.{member_map, map_member, member_filter, filter_member, member_flat_map, flat_map_member, member_number, number_member}
 
 -- a term is of a fault and a relay that clears it first
 pub record IsTermOf (case : Case) (term : Term) : Type 0 where

@@ -3,33 +3,30 @@ use Rattle.std.specs.Prelude.{slice_get, slice_index}
 use Rattle.std.specs.Option.{IsSomeAnd}
 use Rattle.std.proofs.Common.{◌≡◌, ℕ, ◌+◌, ◌<◌, List, length, get_or, Some, arith, sym, ◌∙◌, subst}
 use Rattle.std.proofs.lemmas.Option.{get_or_from_slice_get}
-use Rattle.coord_model.specs.Allowed.{IsUsed, Senses}
-use Rattle.coord_model.specs.Rows.{amps_at}
+use Rattle.coord_model.specs.Allowed.{IsUsed}
 use Rattle.coord_model.specs.declared.study.Row.{Row}
 use Rattle.coord_model.specs.declared.study.Term.{Term}
 use Rattle.margin_rows.specs.Case.{Case, FitsCase, rows_in, terms_in, AtRow, AtTerm}
 use Rattle.margin_rows.specs.FirstBox.{IsFirstStep}
+use Rattle.margin_rows.proofs.Laws.{first_step_senses, sensed_time_is_ordinary}
 use Rattle.margin_rows.specs.Tables.{HoldsRun, AreTablesOf}
 use Rattle.margin_rows.specs.Times.{time_at, ends, IsOrdinary}
 use Rattle.margin_rows.specs.declared.runs.RowRuns.{RowRuns}
 use Rattle.margin_rows.specs.declared.tables.Tables.{Tables}
-use Rattle.margin_rows.proofs.Boxed.{first_is_timed}
 use Rattle.margin_rows.proofs.Listed.{backup_used, primary_used, term_used}
 use Rattle.margin_rows.proofs.Placed.{found_listed, of_some}
-use Rattle.margin_rows.proofs.Places.{some_and, and_some}
+use Rattle.margin_rows.proofs.Places.{some_and}
 use Rattle.margin_rows.proofs.Ran.{HoldsBoth}
-use Rattle.margin_rows.proofs.Timed.{enclosed}
 
 -- a step of the first box has its time in a run
 run_time : (case : Case) (times : List (ℕ × ℕ)) (f i start step : ℕ) → IsUsed case.study case.currents f i → IsFirstStep case i step → HoldsRun case times f i start
     → slice_get times (start + step) ≡ Some (ends (time_at case f i step))
 run_time case times f i start step used first run =
-    let timed = first_is_timed case f i step used first in
-    run.each step (and_some (slice_get case.study.relays i) (λ r. (step < r.plug_count) × Senses case.study r step (amps_at case.currents f i)) timed.relay timed.found (timed.below, timed.senses))
+    run.each step (first_step_senses case f i step used first)
 
 -- and the time is ordinary
 first_ordinary : (case : Case) (f i step : ℕ) → FitsCase case → IsUsed case.study case.currents f i → IsFirstStep case i step → IsOrdinary (time_at case f i step)
-first_ordinary case f i step fits used first = (enclosed case f i step fits.study fits.currents fits.curves (first_is_timed case f i step used first)).ordinary
+first_ordinary case f i step fits used first = sensed_time_is_ordinary case f i step fits (first_step_senses case f i step used first)
 
 -- the row with a number, the places of its times, and the times
 pub record IsRowTimes (case : Case) (tables : Tables) (row backup_step primary_step : ℕ) (at : RowRuns) : Type 0 where

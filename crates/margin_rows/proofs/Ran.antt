@@ -20,6 +20,7 @@ use Rattle.margin_rows.specs.Tables.{cell, cells, Extends, HoldsRun, HoldsRuns}
 use Rattle.margin_rows.specs.declared.runs.Runs.{Runs}
 use Rattle.margin_rows.specs.Times.{relay_time, time_at, ends}
 use Rattle.margin_rows.proofs.Places.{some_and, and_some}
+use Rattle.margin_rows.proofs.Timed.{time_found}
 
 -- the cell of a step that senses the current is its time
 pub cell_sensed : (study : StudyData) (relay : Relay) (amps step : ℕ) → Senses study relay step amps → cell study relay amps step ≡ ends (relay_time study.cap relay step amps)
@@ -69,9 +70,6 @@ run_pushed case times f r relay found =
     same_some : {X : Type 0} (x y : X) → Some x ≡ Some y → x ≡ y
     same_some x y e = cc
 
-    the_time : (step : ℕ) → time_at case f r step ≡ relay_time case.study.cap relay step (amps_at case.currents f r)
-    the_time step = rw found refl
-
     placed : (step : ℕ) → (step < relay.plug_count) × Senses case.study relay step (amps_at case.currents f r)
         → slice_get (times ++ cells case.study relay (amps_at case.currents f r)) (length times + step) ≡ Some (ends (time_at case f r step))
     placed step fact =
@@ -81,7 +79,7 @@ run_pushed case times f r relay found =
         ∙ ap Some (get_or-append-add times run step (0, 0)
         ∙ get_or-map-range_with_len (cell case.study relay (amps_at case.currents f r)) 0 relay.plug_count step step (0, 0) fact.0 (omega arith)
         ∙ cell_sensed case.study relay (amps_at case.currents f r) step fact.1
-        ∙ ap ends (sym (the_time step)))
+        ∙ ap ends (sym (time_found case f r step relay found)))
 
 -- the run that the code puts at the end
 pub run_made : (case : Case) (study : StudyData) (times new : List (ℕ × ℕ)) (f r start amps : ℕ) (relay : Relay) → study ≡ case.study → slice_get case.study.relays r ≡ Some relay

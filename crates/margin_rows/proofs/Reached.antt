@@ -4,6 +4,7 @@ use Rattle.std.proofs.Common.{◌≡◌, ℕ, ◌+◌, ◌-◌, ◌<◌, ◌≤�
 use Rattle.std.proofs.Math.Nat.{mul-le-mul_left, mul-le-mul_right}
 use Rattle.std.proofs.lemmas.Bool.{cases_eq, cases_lt}
 use Rattle.std.proofs.lemmas.List.{length-set, get_or-set_same, get_or-set_other, take_more, take_all}
+use Rattle.std.proofs.lemmas.List.Elements.{Contains-append_cases, Contains-append_left, Contains-append_right}
 use Rattle.std.proofs.lemmas.Option.{slice_get-get_or}
 use Rattle.std.specs.List.{Contains}
 use Rattle.std.specs.Option.{IsSomeAnd, option_map_or}
@@ -16,7 +17,7 @@ use Rattle.coord_model.specs.declared.study.Term.{Term}
 use Rattle.margin_rows.specs.Case.{Case, rows_in, terms_in}
 use Rattle.margin_rows.specs.FirstBox.{IsFirstStep, IsFirstSpanOf}
 use Rattle.margin_rows.specs.Reach.{steps_of, SensesAt, ClearsAt, IsCut, ReachesTo, AreReaches, IsClearSpan}
-use Rattle.margin_rows.proofs.Members.{member_here, member_cases, member_none, member_append, append_left, append_right}
+use Rattle.relay_pairs.proofs.Members.{member_here, member_cases, member_none}
 use Rattle.margin_rows.proofs.Multiples.{plug_rises}
 
 -- what one relay reaches once one more current is looked at
@@ -167,15 +168,15 @@ term_step case terms k d reach place cut below is inside reaches is_cut =
     subst Q (sym (take_more terms k d below))
     (subst S (sym is) (λ the_cut. reach_more case (λ f i. Contains (take k terms) (record { fault = f; relay = i })) (λ f i. Contains (take k terms ++ t ∷ []) (record { fault = f; relay = i })) reach t.fault t.relay cut
     reaches inside the_cut
-    (λ g j listed. elim (member_append (take k terms) (t ∷ []) (record { fault = g; relay = j }) listed) [
+    (λ g j listed. elim (Contains-append_cases (take k terms) (t ∷ []) (record { fault = g; relay = j }) listed) [
       | inl old ↦ inl old
       | inr new ↦ elim (member_cases t (record { fault = g; relay = j }) [] new) [
         | inl e ↦ inr (ap (λ (x : Term). x.fault) (sym e), ap (λ (x : Term). x.relay) (sym e))
         | inr none ↦ absurd (member_none (record { fault = g; relay = j }) none)
       ]
     ])
-    (λ g j old. append_left (take k terms) (t ∷ []) (record { fault = g; relay = j }) old)
-    (append_right (take k terms) (t ∷ []) t (member_here t t [] refl))) is_cut)
+    (λ g j old. Contains-append_left (take k terms) (t ∷ []) (record { fault = g; relay = j }) old)
+    (Contains-append_right (take k terms) (t ∷ []) t (member_here t t [] refl))) is_cut)
 
 -- the uses of terms and of a front of the rows
 abbrev pub UsedBy : List Term → List Row → ℕ → ℕ → Type 0
@@ -194,7 +195,7 @@ row_step case terms rows k d reach place cut below is inside reaches is_cut =
     reaches inside the_cut
     (λ g j used. elim used [
       | inl term ↦ inl (inl term)
-      | inr row ↦ elim (member_append (take k rows) (t ∷ []) (record { fault = g; backup = j; primary = row.0 }) row.1) [
+      | inr row ↦ elim (Contains-append_cases (take k rows) (t ∷ []) (record { fault = g; backup = j; primary = row.0 }) row.1) [
         | inl old ↦ inl (inr (row.0, old))
         | inr new ↦ elim (member_cases t (record { fault = g; backup = j; primary = row.0 }) [] new) [
           | inl e ↦ inr (ap (λ (x : Row). x.fault) (sym e), ap (λ (x : Row). x.backup) (sym e))
@@ -202,8 +203,8 @@ row_step case terms rows k d reach place cut below is inside reaches is_cut =
         ]
       ]
     ])
-    (λ g j used. elim used [ inl term ↦ inl term | inr row ↦ inr (row.0, append_left (take k rows) (t ∷ []) (record { fault = g; backup = j; primary = row.0 }) row.1) ])
-    (inr (t.primary, append_right (take k rows) (t ∷ []) t (member_here t t [] refl)))) is_cut)
+    (λ g j used. elim used [ inl term ↦ inl term | inr row ↦ inr (row.0, Contains-append_left (take k rows) (t ∷ []) (record { fault = g; backup = j; primary = row.0 }) row.1) ])
+    (inr (t.primary, Contains-append_right (take k rows) (t ∷ []) t (member_here t t [] refl)))) is_cut)
 
 -- before the first row the uses are those of the terms, and after the last they are all
 pub rows_none : (case : Case) (terms : List Term) (reach : List ℕ) → AreReaches case (λ f i. Contains terms (record { fault = f; relay = i })) reach → AreReaches case (UsedBy terms []) reach

@@ -6,32 +6,22 @@ use Rattle.std.proofs.lemmas.List.Elements.{All-head, All-tail}
 use Rattle.std.specs.List.{All}
 use Rattle.std.specs.Option.{option_map_or}
 use Rattle.coord_model.specs.Allowed.{Senses}
+use Rattle.coord_model.specs.Enclosure.{IsEnclosable}
 use Rattle.coord_model.specs.Form.{form_of}
 use Rattle.coord_model.specs.Limits.{FitsStudy, FitsCurrents, FitsRelay, FitsCurrent}
 use Rattle.coord_model.specs.Rows.{amps_at}
 use Rattle.coord_model.specs.StudyData.{StudyData}
 use Rattle.coord_model.specs.Time.{sensed_multiple, capped, IsUnder, IsOver}
-use Rattle.coord_model.specs.declared.curve.CurveName.{CurveName}
-use Rattle.coord_model.specs.declared.curve.CurveName.TheVariants.{IecA, IecB, IecC, IeeeMi, IeeeVi, IeeeEi}
 use Rattle.coord_model.specs.declared.study.Current.{Current}
 use Rattle.coord_model.specs.declared.study.Relay.{Relay}
-use Rattle.margin_rows.specs.Case.{Case, HasWholeExponent}
+use Rattle.margin_rows.specs.Case.{Case}
 use Rattle.margin_rows.specs.Times.{relay_time, time_at, IsOrdinary}
-use Rattle.margin_rows.proofs.Curves.{time_is_ordinary, time_is_under, time_is_over}
+use Rattle.margin_rows.proofs.Curves.{time_keeps, time_is_ordinary}
 use Rattle.margin_rows.proofs.Multiples.{sensed_enclosable}
 
 -- a fact on each element holds of the one at a place
 pub at_place : {X : Type 0} (P : X → Type 0) (xs : List X) (i : ℕ) (x : X) → All P xs → slice_get xs i ≡ Some x → P x
 at_place P xs i x all found = subst P (get_or_from_slice_get xs i x x found) (all i x (slice_get_within xs i x found))
-
--- the numbers of a curve are above 0
-pub curve_some : (curve : CurveName) → (0 < (form_of curve).k4) × (0 < (form_of curve).h)
-curve_some IecA = (omega arith, omega arith)
-curve_some IecB = (omega arith, omega arith)
-curve_some IecC = (omega arith, omega arith)
-curve_some IeeeMi = (omega arith, omega arith)
-curve_some IeeeVi = (omega arith, omega arith)
-curve_some IeeeEi = (omega arith, omega arith)
 
 -- a current is at most the limit
 pub amps_few : (study : StudyData) (entries : List Current) (f r : ℕ) → All (FitsCurrent study) entries → amps_at entries f r ≤ 100000
@@ -59,28 +49,26 @@ pub record IsEnclosed (case : Case) (f i step : ℕ) : Type 0 where
   pub ordinary : IsOrdinary (time_at case f i step)
   pub under : IsUnder (form_of relay.curve) (capped case.study.cap (sensed_multiple relay step (amps_at case.currents f i))) (time_at case f i step).lower (10 ^ 9)
   pub over : IsOver (form_of relay.curve) (capped case.study.cap (sensed_multiple relay step (amps_at case.currents f i))) (time_at case f i step).upper (10 ^ 9)
-  pub num : 0 < (capped case.study.cap (sensed_multiple relay step (amps_at case.currents f i))).num
-  pub den : 0 < (capped case.study.cap (sensed_multiple relay step (amps_at case.currents f i))).den
+  pub enclosable : IsEnclosable (capped case.study.cap (sensed_multiple relay step (amps_at case.currents f i)))
 
-time_found : (case : Case) (f i step : ℕ) (o : Option Relay) (relay : Relay) → o ≡ Some relay
-    → option_map_or (λ r. relay_time case.study.cap r step (amps_at case.currents f i)) o (record { lower = 0; upper = 0 }) ≡ relay_time case.study.cap relay step (amps_at case.currents f i)
-time_found case f i step o relay found = rw found refl
+-- the time of a relay that is there
+pub time_found : (case : Case) (f i step : ℕ) (relay : Relay) → slice_get case.study.relays i ≡ Some relay
+    → time_at case f i step ≡ relay_time case.study.cap relay step (amps_at case.currents f i)
+time_found case f i step relay found = rw found refl
 
-pub enclosed : (case : Case) (f i step : ℕ) → FitsStudy case.study → FitsCurrents case.study case.currents → All HasWholeExponent case.study.relays → IsTimedAt case f i step → IsEnclosed case f i step
-enclosed case f i step fits currents curves timed =
+pub enclosed : (case : Case) (f i step : ℕ) → FitsStudy case.study → FitsCurrents case.study case.currents → IsTimedAt case f i step → IsEnclosed case f i step
+enclosed case f i step fits currents timed =
     let relay = timed.relay in
     let relay_fits = at_place (FitsRelay case.study) case.study.relays i relay fits.relays timed.found in
-    let whole = at_place HasWholeExponent case.study.relays i relay curves timed.found in
     let few = amps_few case.study case.currents f i currents.each in
     let within = sensed_enclosable case.study relay step (amps_at case.currents f i) fits relay_fits timed.below few timed.senses in
-    let is = time_found case f i step (slice_get case.study.relays i) relay timed.found in
+    let is = time_found case f i step relay timed.found in
     record {
       relay = relay;
       found = timed.found;
       time = is;
-      ordinary = rw is (time_is_ordinary relay.curve _ whole within);
-      under = rw is (time_is_under relay.curve _ whole within);
-      over = rw is (time_is_over relay.curve _ whole within);
-      num = omega (arith, within.above_one, within.some);
-      den = within.some;
+      ordinary = rw is (time_is_ordinary relay.curve _ within);
+      under = rw is (time_keeps relay.curve _ within).under;
+      over = rw is (time_keeps relay.curve _ within).over;
+      enclosable = within;
     }

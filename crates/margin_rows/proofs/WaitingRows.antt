@@ -10,8 +10,8 @@ use Rattle.coord_model.specs.declared.study.Pair.{Pair}
 use Rattle.coord_model.specs.declared.study.Row.{Row}
 use Rattle.margin_rows.specs.Case.{Case, rows_in}
 use Rattle.margin_rows.specs.Waiting.{waits_at, row_from}
-use Rattle.margin_rows.proofs.Counted.{pieces_more, piece_yes}
-use Rattle.margin_rows.proofs.Members.{member_map, member_filter, member_flat_map, member_number}
+use Rattle.relay_pairs.proofs.Counted.{pieces_more, piece_yes}
+use Rattle.relay_pairs.proofs.Members.{member_map, member_filter, member_flat_map, member_number}
 
 kept_test : {B Y Z : Type 0} (h : B → Y) (g : Y → Z) (k : B → Z) (b : B) (ys : List Y) (ws : List B) (current clears : Bool) → g (h b) ≡ k b
     → map g ys ≡ cond clears (map k ws) [] → map g (cond (clears && current) (h b ∷ ys) ys) ≡ cond clears (map k (cond current (b ∷ ws) ws)) []

@@ -1,12 +1,10 @@
 -- A study with its currents: what a coordination is worked out for.
-use Rattle.std.specs.Prelude.{◌≡◌, ℕ, ◌≤◌, List, length, IfSome, slice_get, All}
-use Rattle.coord_model.specs.Form.{form_of}
+use Rattle.std.specs.Prelude.{ℕ, ◌≤◌, List, length, IfSome, slice_get}
 use Rattle.coord_model.specs.Limits.{FitsStudy, FitsCurrents}
 use Rattle.coord_model.specs.Rows.{rows_of, terms_of}
 use Rattle.coord_model.specs.StudyData.{StudyData, study_data, entries_of}
 use Rattle.coord_model.specs.declared.study.Current.{Current}
 use Rattle.coord_model.specs.declared.study.Currents.{Currents}
-use Rattle.coord_model.specs.declared.study.Relay.{Relay}
 use Rattle.coord_model.specs.declared.study.Row.{Row}
 use Rattle.coord_model.specs.declared.study.Study.{Study}
 use Rattle.coord_model.specs.declared.study.Term.{Term}
@@ -36,13 +34,8 @@ AtRow case row P = IfSome (slice_get (rows_in case) row) P
 abbrev pub AtTerm : Case → ℕ → (Term → Type 0) → Type 0
 AtTerm case term P = IfSome (slice_get (terms_in case) term) P
 
--- the relay's curve has a whole exponent
-abbrev pub HasWholeExponent : Relay → Type 0
-HasWholeExponent relay = (form_of relay.curve).h ≡ 1
-
 -- the case is within the limits
 pub record FitsCase (case : Case) : Type 0 where
   pub study : FitsStudy case.study
   pub currents : FitsCurrents case.study case.currents
-  pub curves : All HasWholeExponent case.study.relays
   pub few_rows : length (rows_in case) ≤ 4096

@@ -1,9 +1,9 @@
 -- The currents of a case as a table with a place for each fault and relay.
-use Rattle.std.specs.Prelude.{◌≡◌, ℕ, ◌+◌, ◌*◌, ◌<◌, List, length, slice_index, All}
+use Rattle.std.specs.Prelude.{◌≡◌, ℕ, ◌+◌, ◌*◌, ◌<◌, List, length, slice_index}
 use Rattle.coord_model.specs.Limits.{FitsStudy, FitsCurrents}
 use Rattle.coord_model.specs.Rows.{amps_at}
 use Rattle.coord_model.specs.declared.study.Current.{Current}
-use Rattle.margin_rows.specs.Case.{Case, HasWholeExponent}
+use Rattle.margin_rows.specs.Case.{Case}
 
 -- the entry is for one of the relays, and its place is in a table of this size
 pub record HasPlace (relays size : ℕ) (entry : Current) : Type 0 where
@@ -18,6 +18,5 @@ pub record HoldsAmps (relays : ℕ) (entries : List Current) (table : List ℕ) 
 pub record IsGiven (case : Case) (table : List ℕ) : Type 0 where
   pub study : FitsStudy case.study
   pub currents : FitsCurrents case.study case.currents
-  pub curves : All HasWholeExponent case.study.relays
   pub size : length table ≡ length case.study.faults * length case.study.relays
   pub amps : HoldsAmps (length case.study.relays) case.currents table

@@ -1,5 +1,6 @@
 pub mod Box
 pub mod Case
+pub mod Dial
 pub mod FirstBox
 pub mod Given
 pub mod Halves

@@ -1,17 +1,14 @@
 -- The operating times of a case, enclosed in whole nanoseconds at dial 1 (ours).
 use Rattle.std.specs.Prelude.{ℕ, ◌<◌, ◌≤◌, ◌^◌, slice_get}
 use Rattle.std.specs.Option.{option_map_or}
-use Rattle.coord_model.specs.Enclosure.{Enclosure, Root, enclosure}
+use Rattle.coord_model.specs.Enclosure.{Enclosure, enclosure}
 use Rattle.coord_model.specs.Form.{form_of}
 use Rattle.coord_model.specs.Rows.{amps_at}
 use Rattle.coord_model.specs.Time.{Multiple, sensed_multiple, capped}
 use Rattle.coord_model.specs.declared.curve.CurveName.{CurveName}
 use Rattle.coord_model.specs.declared.study.Relay.{Relay}
+use Rattle.curve_iec.specs.Curves.{root_of}
 use Rattle.margin_rows.specs.Case.{Case}
-
--- the ends of the fiftieth root of a multiple, which a curve with a whole exponent does not use
-abbrev pub root_of : Multiple → Root
-root_of m = record { low = 0; high = 0 }
 
 -- the enclosure of a curve's time at a multiple
 unfoldable pub curve_time : CurveName → Multiple → Enclosure

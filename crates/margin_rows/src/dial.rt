@@ -1,7 +1,7 @@
 //! The dials of the relays.
-ghost use Rattle.std.specs.Prelude.{◌≡◌, ◌<◌, ◌≤◌, slice_get, IsSomeAnd};
-ghost use Rattle.coord_model.specs.Time.{dial_at};
+ghost use Rattle.std.specs.Prelude.{◌≡◌, ◌<◌, ◌≤◌};
 ghost use Rattle.margin_rows.specs.Box.{IsDialStep};
+ghost use Rattle.margin_rows.specs.Dial.{dial_at_step};
 
 use crate::instance::Instance;
 
@@ -9,7 +9,7 @@ use crate::instance::Instance;
 pub fn dial_at(inst: &Instance, relay: u16, step: u16) -> u64
     requires { IsDialStep inst.now relay step }
 
-    ensures exact { IsSomeAnd (slice_get inst.now.study.relays relay) (λ r. result ≡ dial_at r step) }
+    ensures exact { result ≡ dial_at_step inst.now.study relay step }
     ensures some { 0 < result }
     ensures small { result ≤ 15000 }
 {

@@ -3,7 +3,7 @@ ghost use Rattle.std.specs.Prelude.{◌≡◌, ◌*◌, ◌<◌, ◌≤◌, [], 
 ghost use Rattle.coord_model.specs.Limits.{FitsStudy, FitsCurrents};
 ghost use Rattle.coord_model.specs.Rows.{amps_at};
 ghost use Rattle.coord_model.specs.StudyData.{study_data, entries_of};
-ghost use Rattle.margin_rows.specs.Case.{case_of, HasWholeExponent};
+ghost use Rattle.margin_rows.specs.Case.{case_of};
 ghost use Rattle.margin_rows.specs.Given.{HasPlace, HoldsAmps};
 
 use coord_model::{Current, Currents, Fault, NoMemory, Relay, Study};
@@ -36,7 +36,6 @@ impl Given {
     pub fn new(alloc: Global, study: Study, currents: Currents) -> Result<Given, NoMemory>
         requires study { FitsStudy (study_data study) }
         requires currents { FitsCurrents (study_data study) (entries_of currents) }
-        requires curves { All HasWholeExponent study.relays.items }
         ensures { IfOk result (λ given. given ≡ case_of study currents) }
     {
         let amps = amps(
@@ -57,7 +56,6 @@ impl Given {
         ensures value { study_data result.now ≡ self.now.study }
         ensures study { FitsStudy self.now.study }
         ensures currents { FitsCurrents self.now.study self.now.currents }
-        ensures curves { All HasWholeExponent self.now.study.relays }
     {
         let _table = &self.amps;
         &self.study

@@ -1,8 +1,8 @@
 //! An instance: a study and its currents, with what is worked out from them once.
-ghost use Rattle.std.specs.Prelude.{◌≡◌, ◌<◌, length, All, IfOk, IfErr, IfSome};
+ghost use Rattle.std.specs.Prelude.{◌≡◌, ◌<◌, length, IfOk, IfErr, IfSome};
 ghost use Rattle.coord_model.specs.Limits.{FitsStudy, FitsCurrents};
 ghost use Rattle.coord_model.specs.StudyData.{study_data, entries_of};
-ghost use Rattle.margin_rows.specs.Case.{case_of, rows_in, terms_in, AtRow, AtTerm, HasWholeExponent, FitsCase};
+ghost use Rattle.margin_rows.specs.Case.{case_of, rows_in, terms_in, AtRow, AtTerm, FitsCase};
 ghost use Rattle.margin_rows.specs.FirstBox.{IsFirstStep, IsFirstSpanOf};
 ghost use Rattle.margin_rows.specs.Refusal.{HasCause};
 ghost use Rattle.margin_rows.specs.Times.{time_at, ends, IsOrdinary};
@@ -38,7 +38,6 @@ impl Model for Instance {
 pub fn build(alloc: Global, study: Study, currents: Currents) -> Result<Instance, BuildFault>
     requires study { FitsStudy (study_data study) }
     requires currents { FitsCurrents (study_data study) (entries_of currents) }
-    requires curves { All HasWholeExponent study.relays.items }
 
     ensures exact { IfOk result (λ inst. inst ≡ case_of study currents) }
     ensures fits { IfOk result FitsCase }

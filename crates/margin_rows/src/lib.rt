@@ -13,7 +13,6 @@ mod given;
 mod instance;
 mod lowest;
 mod margin;
-mod pairs;
 mod price;
 mod ranges;
 mod rows;

@@ -3,7 +3,7 @@ ghost use Rattle.std.specs.Prelude.{◌≡◌, ◌<◌, ◌≤◌, ◌++◌, len
 ghost use Rattle.coord_model.specs.Allowed.{Senses};
 ghost use Rattle.coord_model.specs.Limits.{FitsStudy, FitsRelay};
 ghost use Rattle.coord_model.specs.StudyData.{study_data};
-ghost use Rattle.margin_rows.specs.Case.{rows_in, terms_in, HasWholeExponent};
+ghost use Rattle.margin_rows.specs.Case.{rows_in, terms_in};
 ghost use Rattle.margin_rows.specs.Tables.{cell, cells, Extends, HoldsRun, HoldsRuns, HoldTermRuns, HoldRowRuns};
 ghost use Rattle.margin_rows.specs.Times.{relay_time, ends};
 
@@ -129,7 +129,6 @@ fn push_run(
 ) -> Result<(), NoMemory>
     requires study { FitsStudy (study_data study.now) }
     requires relay { FitsRelay (study_data study.now) relay.now }
-    requires curve { HasWholeExponent relay.now }
     requires amps { amps ≤ 100000 }
     ensures { OnOk result (times.new.items ≡ times.old.items ++ cells (study_data study.now) relay.now amps) }
 {
@@ -143,7 +142,6 @@ fn push_run(
 fn time(study: &Study, relay: &Relay, step: u16, amps: u32) -> (u64, u64)
     requires study { FitsStudy (study_data study.now) }
     requires relay { FitsRelay (study_data study.now) relay.now }
-    requires curve { HasWholeExponent relay.now }
     requires step { step < relay.now.plug_count }
     requires amps { amps ≤ 100000 }
     ensures { result ≡ cell (study_data study.now) relay.now amps step }
@@ -159,7 +157,6 @@ fn time(study: &Study, relay: &Relay, step: u16, amps: u32) -> (u64, u64)
 fn sensed_time(study: &Study, relay: &Relay, step: u16, amps: u32) -> (u64, u64)
     requires study { FitsStudy (study_data study.now) }
     requires relay { FitsRelay (study_data study.now) relay.now }
-    requires curve { HasWholeExponent relay.now }
     requires step { step < relay.now.plug_count }
     requires amps { amps ≤ 100000 }
     requires sensed { Senses (study_data study.now) relay.now step amps }

@@ -6,12 +6,12 @@ ghost use Rattle.margin_rows.specs.Tables.{AreTablesOf};
 
 use crate::fault::BuildFault;
 use crate::given::Given;
-use crate::pairs::pairs;
 use crate::rows::rows;
 use crate::runs::{RowRuns, no_runs, row_runs, term_runs};
 use crate::spans::first_spans;
 use crate::terms::terms;
 use coord_model::{Row, Term};
+use relay_pairs::pairs;
 use std::alloc::Global;
 
 /// The rows and terms, the first box, the operating times, and where those of each term and row begin.

@@ -1,9 +1,8 @@
 //! Studies that are worked out by hand: curve B takes 13.5/(M - 1) seconds at the multiple of pickup M and dial 1.
-ghost use Rattle.std.specs.Prelude.{IfSome};
+ghost use Rattle.std.specs.Prelude.{◌≤◌, IfSome};
 ghost use Rattle.coord_model.specs.Choice.{choice_data};
 ghost use Rattle.margin_rows.specs.FirstBox.{IsInFirstBox};
 
-use crate::enclose::enclose;
 use crate::fault::BuildFault;
 use crate::{Instance, cost, loose_row, lower_cost, lowest_choice, strict_ok, strict_row};
 use coord_model::{Choice, CurveName, NoMemory, Row, Term};
@@ -13,24 +12,32 @@ mod studies;
 
 use studies::{one_fault, one_line, two_lines};
 
+// The pickup is 100 A. 13.5/7, 19.61/99 + 0.491, 28.2/24 + 0.1217 and, with the multiple 1000 cut to 20, 80/399 s.
 #[test]
-fn times_are_enclosed(rt: HostRuntime) {
-    assert_eq!(rt;
-        enclose(CurveName::IecB, 10, 1),
-        (1_500_000_000, 1_500_000_000)
-    );
-    assert_eq!(rt;
-        enclose(CurveName::IecB, 8, 1),
-        (1_928_571_428, 1_928_571_429)
-    );
-    assert_eq!(rt;
-        enclose(CurveName::IeeeVi, 10, 1),
-        (689_080_808, 689_080_809)
-    );
-    assert_eq!(rt;
-        enclose(CurveName::IeeeEi, 5, 1),
-        (1_296_700_000, 1_296_700_000)
-    );
+fn each_curve_has_its_own_times(rt: HostRuntime) -> Result<(), BuildFault> {
+    let alloc = rt.alloc();
+    assert!(rt; time(alloc, CurveName::IecB, 800)? == Some((1_928_571_428, 1_928_571_429)));
+    assert!(rt; time(alloc, CurveName::IeeeVi, 1_000)? == Some((689_080_808, 689_080_809)));
+    assert!(rt; time(alloc, CurveName::IeeeEi, 500)? == Some((1_296_700_000, 1_296_700_000)));
+    assert!(rt; time(alloc, CurveName::IecC, 100_000)? == Some((200_501_253, 200_501_254)));
+    Ok(())
+}
+
+// 0.14/(10^0.02 - 1) is 2.970598624.. and 0.0515/(10^0.02 - 1) + 0.114 is 1.206755922.. s.
+#[test]
+fn a_curve_of_the_fiftieth_root_lies_between_near_ends(rt: HostRuntime) -> Result<(), BuildFault> {
+    let alloc = rt.alloc();
+    let Some((lower, upper)) = time(alloc, CurveName::IecA, 1_000)? else {
+        return Err(BuildFault::NoMemory);
+    };
+    assert!(rt; 2_970_598_000 <= lower && lower <= 2_970_598_624);
+    assert!(rt; 2_970_598_625 <= upper && upper <= lower + 100);
+    let Some((lower, upper)) = time(alloc, CurveName::IeeeMi, 1_000)? else {
+        return Err(BuildFault::NoMemory);
+    };
+    assert!(rt; 1_206_755_822 <= lower && lower <= 1_206_755_922);
+    assert!(rt; 1_206_755_923 <= upper && upper <= lower + 100);
+    Ok(())
 }
 
 // At multiple 10 dials 0.250 and 0.050 lie 300 ms apart, exactly the interval.
@@ -78,7 +85,7 @@ fn a_row_is_met_by_a_hair(rt: HostRuntime) -> Result<(), BuildFault> {
 // 110 A is 1.10 times 1.00 A, exactly at the least multiple sensed, and less than 1.10 times 1.01 A.
 #[test]
 fn a_step_that_does_not_sense_is_left_out(rt: HostRuntime) -> Result<(), BuildFault> {
-    let inst = one_line(rt.alloc(), 1, 0, 110)?;
+    let inst = one_line(rt.alloc(), CurveName::IecB, 1, 0, 110)?;
     assert!(rt; first_span(&inst) == Some((0, 0)));
     Ok(())
 }
@@ -86,7 +93,7 @@ fn a_step_that_does_not_sense_is_left_out(rt: HostRuntime) -> Result<(), BuildFa
 // 100,000 A is past the cap at both steps, so both take 13.5/19 s.
 #[test]
 fn a_multiple_past_the_cap_is_the_cap(rt: HostRuntime) -> Result<(), BuildFault> {
-    let inst = one_line(rt.alloc(), 100, 0, 100_000)?;
+    let inst = one_line(rt.alloc(), CurveName::IecB, 100, 0, 100_000)?;
     assert!(rt; first_span(&inst) == Some((0, 1)));
     let Some(choice) = lowest_choice(rt.alloc(), &inst)? else {
         return Err(BuildFault::NoMemory);
@@ -99,7 +106,7 @@ fn a_multiple_past_the_cap_is_the_cap(rt: HostRuntime) -> Result<(), BuildFault>
 // A load of 500 A at 120 percent asks for 600 A, and the greatest pickup is 200 A.
 #[test]
 fn a_load_can_leave_no_step(rt: HostRuntime) -> Result<(), BuildFault> {
-    let inst = one_line(rt.alloc(), 100, 500, 1_000)?;
+    let inst = one_line(rt.alloc(), CurveName::IecB, 100, 500, 1_000)?;
     assert!(rt; first_span(&inst) == None);
     assert!(rt; lowest_choice(rt.alloc(), &inst)?.is_none());
     Ok(())
@@ -147,6 +154,24 @@ fn with_dial(inst: &Instance, mut choice: Choice, relay: u16, step: u16) -> Opti
     }
     choice.dial[place] = step;
     Some(choice)
+}
+
+/// The ends of the time of a relay with pickup 100 A at a current.
+fn time(alloc: Global, curve: CurveName, amps: u32) -> Result<Option<(u64, u64)>, BuildFault>
+    requires { amps ≤ 100000 }
+{
+    let inst = one_line(alloc, curve, 100, 0, amps)?;
+    Ok(first_time(&inst))
+}
+
+/// The ends of the time of relay 0 at the first term, with its lowest pickup.
+fn first_time(inst: &Instance) -> Option<(u64, u64)> {
+    let term = *inst.terms().first()?;
+    let (low, _high) = first_span(inst)?;
+    if term.relay != 0 {
+        return None;
+    }
+    Some(inst.term_time(0, low))
 }
 
 /// The first box's span of relay 0.

@@ -1,3 +1,4 @@
+pub mod Apart
 pub mod EachAfter
 pub mod FitsParts
 pub mod ItemLists

@@ -1,5 +1,5 @@
 //! The names of an entry as numbers, by the rules that tie the tables together.
-ghost use Rattle.std.specs.Prelude.{◌≡◌, ◌+◌, ◌-◌, ◌*◌, ◌^◌, ◌<◌, ◌≤◌, [], ◌∷◌, ◌++◌, length, slice_get, IfOk};
+ghost use Rattle.std.specs.Prelude.{◌≡◌, ◌+◌, ◌-◌, ◌*◌, ◌^◌, ◌<◌, ◌≤◌, [], ◌∷◌, ◌++◌, length, slice_get, false, IfOk};
 ghost use Rattle.coord_model.specs.Limits.{FitsLine, FitsRelay, FitsFault};
 ghost use Rattle.coord_model.specs.Rows.{ends_at};
 ghost use Rattle.network_file.specs.EntryLimits.{RelayKeeps, FaultKeeps};
@@ -74,6 +74,7 @@ pub(crate) fn relay_in(
         (relay_in grid.now.buses.keys grid.now.line_names.keys grid.now.lines.items place names.old.keys before.now entry) }
     ensures added { IfOk result (λ relay. names.new.keys ≡ names.old.keys ++ relay.name ∷ []) }
     ensures fits { IfOk result (FitsRelay (study_with grid.now.buses.keys grid.now.lines.items [])) }
+    ensures free { IfOk result (λ relay. is_taken before.now relay.line relay.bus ≡ false) }
 {
     add_new(names, place, entry.name)?;
     let Some(line) = number_in(&grid.line_names, entry.line) else {

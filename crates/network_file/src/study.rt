@@ -1,6 +1,7 @@
 //! What a network file tells as a study: lines, relays, faults and exempt pairs in order, by their numbers.
 ghost use Rattle.std.specs.Prelude.{◌≡◌, ◌*◌, ◌<◌, ◌≤◌, [], ◌∷◌, length, sum_by, vec_len, All, IfOk};
-ghost use Rattle.coord_model.specs.Limits.{FitsLine, FitsRelay, FitsFault, FitsStudy};
+ghost use Rattle.std.specs.List.{AllPairs};
+ghost use Rattle.coord_model.specs.Limits.{FitsLine, FitsRelay, FitsFault, FitsStudy, StandTogether};
 ghost use Rattle.coord_model.specs.StudyData.{study_data};
 ghost use Rattle.network_file.specs.EntryLimits.{RelayKeeps, FaultKeeps};
 ghost use Rattle.network_file.specs.Fault.{Gives, each_after};
@@ -100,6 +101,7 @@ fn relays_of(
     ensures count { IfOk result (λ made. vec_len made.0 ≡ length entries.now) }
     ensures named { IfOk result (λ made. made.1.keys ≡ relay_names made.0.items) }
     ensures fits { IfOk result (λ made. All (FitsRelay (study_with grid.now.buses.keys grid.now.lines.items [])) made.0.items) }
+    ensures apart { IfOk result (λ made. AllPairs (λ relay other. ¬ (StandTogether relay other)) made.0.items) }
 {
     let mut names = Names::new(alloc);
     let mut relays = Vec::with_capacity(alloc, entries.len())?;

@@ -2,7 +2,6 @@
 ghost use Rattle.std.specs.Prelude.{◌≡◌, ◌<◌, ◌≤◌, All, IfOk, length};
 ghost use Rattle.coord_model.specs.Limits.{FitsStudy, IsBetween};
 ghost use Rattle.coord_model.specs.StudyData.{study_data, entries_of};
-ghost use Rattle.margin_rows.specs.Case.{HasWholeExponent};
 
 use crate::fault::BuildFault;
 use crate::{Instance, build};
@@ -61,7 +60,6 @@ pub fn two_lines(alloc: Global) -> Result<Instance, BuildFault> {
 
 fn two_lines_study(alloc: Global) -> Result<Study, NoMemory>
     ensures fits { IfOk result (λ study. FitsStudy (study_data study)) }
-    ensures curves { IfOk result (λ study. All HasWholeExponent study.relays.items) }
     ensures faults { IfOk result (λ study. length study.faults.items ≡ 2) }
     ensures relays { IfOk result (λ study. length study.relays.items ≡ 2) }
 {
@@ -136,7 +134,6 @@ pub fn one_fault(alloc: Global) -> Result<Instance, BuildFault> {
 
 fn one_fault_study(alloc: Global) -> Result<Study, NoMemory>
     ensures fits { IfOk result (λ study. FitsStudy (study_data study)) }
-    ensures curves { IfOk result (λ study. All HasWholeExponent study.relays.items) }
     ensures faults { IfOk result (λ study. length study.faults.items ≡ 1) }
     ensures relays { IfOk result (λ study. length study.relays.items ≡ 2) }
 {
@@ -197,6 +194,7 @@ fn one_fault_currents(alloc: Global) -> Result<Currents, NoMemory>
 /// One line with a relay of two pickups and a fault on it.
 pub fn one_line(
     alloc: Global,
+    curve: CurveName,
     plug_step: u32,
     load_amps: u32,
     amps: u32,
@@ -207,19 +205,27 @@ pub fn one_line(
 {
     build(
         alloc,
-        one_line_study(alloc, plug_step, load_amps)?,
+        one_line_study(alloc, curve, plug_step, load_amps)?,
         one_line_currents(alloc, amps)?,
     )
 }
 
-fn one_line_study(alloc: Global, plug_step: u32, load_amps: u32) -> Result<Study, NoMemory>
+fn one_line_study(
+    alloc: Global,
+    curve: CurveName,
+    plug_step: u32,
+    load_amps: u32,
+) -> Result<Study, NoMemory>
     requires plug_step { IsBetween 1 plug_step 100 }
     requires load { load_amps ≤ 500 }
     ensures fits { IfOk result (λ study. FitsStudy (study_data study)) }
-    ensures curves { IfOk result (λ study. All HasWholeExponent study.relays.items) }
     ensures faults { IfOk result (λ study. length study.faults.items ≡ 1) }
     ensures relays { IfOk result (λ study. length study.relays.items ≡ 1) }
 {
+    let relay = Relay {
+        curve,
+        ..relay(0, plug_step, 2, 50, 1, load_amps)
+    };
     Ok(Study {
         cti_ms: 300,
         sense: 110,
@@ -234,7 +240,7 @@ fn one_line_study(alloc: Global, plug_step: u32, load_amps: u32) -> Result<Study
                 to: 1,
             }],
         )?,
-        relays: Vec::from_slice(alloc, &[relay(0, plug_step, 2, 50, 1, load_amps)])?,
+        relays: Vec::from_slice(alloc, &[relay])?,
         faults: Vec::from_slice(
             alloc,
             &[Fault {

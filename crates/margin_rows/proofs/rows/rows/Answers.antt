@@ -1,6 +1,6 @@
 use Rattle.std.proofs.Common.{arith, refl, ap, length}
 use Rattle.coord_model.specs.StudyData.{StudyData}
-use Rattle.margin_rows.proofs.Counted.{piece_yes}
+use Rattle.relay_pairs.proofs.Counted.{piece_yes}
 use Rattle.margin_rows.proofs.WaitingRows.{too_many}
 use Rattle.margin_rows.proofs.rows.rows.Goals as goal
 

@@ -1,7 +1,7 @@
 use Rattle.coord_model.specs.StudyData.{study_data}
 use Rattle.std.proofs.Common.{◌∙◌, ap, ◌++◌, ◌∷◌, []}
 use Rattle.margin_rows.specs.Tables.{cell}
-use Rattle.margin_rows.proofs.Counted.{mapped_yes}
+use Rattle.relay_pairs.proofs.Counted.{mapped_yes}
 use Rattle.margin_rows.proofs.runs.push_run.Goals as goal
 
 pub loop-step-preserved : goal.loop-step-preserved

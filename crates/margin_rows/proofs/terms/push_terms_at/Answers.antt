@@ -1,5 +1,5 @@
 use Rattle.std.proofs.Common.{sym, ap, ◌∙◌}
-use Rattle.margin_rows.proofs.Counted.{kept_yes, kept_no}
+use Rattle.relay_pairs.proofs.Counted.{kept_yes, kept_no}
 use Rattle.margin_rows.proofs.terms.push_terms_at.Goals as goal
 use Rattle.margin_rows.proofs.terms.push_terms_at.Goals.{then-is_primary+in_ok-push, else-is_primary}
 

@@ -1,4 +1,4 @@
-use Rattle.margin_rows.proofs.Counted.{piece_yes}
+use Rattle.relay_pairs.proofs.Counted.{piece_yes}
 use Rattle.margin_rows.proofs.terms.terms.Goals as goal
 
 pub loop-fault-preserved : goal.loop-fault-preserved

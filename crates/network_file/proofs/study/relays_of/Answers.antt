@@ -9,6 +9,7 @@ use Rattle.coord_model.specs.Limits.{FitsRelay}
 use Rattle.network_file.specs.Fits.{study_with}
 use Rattle.network_file.specs.Study.{next_relay}
 use Rattle.network_file.specs.Elements.{place_after}
+use Rattle.network_file.proofs.Apart.{stands_apart}
 use Rattle.network_file.proofs.EachAfter.{next_split, goes_on, stops, ends}
 use Rattle.network_file.proofs.study.relays_of.Goals as goal
 
@@ -32,6 +33,7 @@ loop-entry-preserved c =
       so_far = rw c.in_ok-push.ensures.items (goes_on (next_relay c.args.grid.now.buses.keys c.args.grid.now.lines.items) c.loop-entry.relays.items c.entry-item.result _ _ _ made
           (next_split c.args.entries.now c.loop-entry.entry-index c.entry-item.result c.loop-entry-test.true c.entry-item.is) here c.loop-entry.invariant.so_far);
       fits = rw c.in_ok-push.ensures.items (All-push (FitsRelay (study_with c.args.grid.now.buses.keys c.args.grid.now.lines.items [])) c.loop-entry.relays.items made c.loop-entry.invariant.fits c.in_ok-relay.ensures.fits);
+      apart = rw c.in_ok-push.ensures.items (stands_apart c.loop-entry.relays.items made c.loop-entry.invariant.apart (rw (← c.deref-in-loop-entry.ensures.value) c.in_ok-relay.ensures.free));
     }
 
 pub returns-clause-exact : goal.returns-clause-exact

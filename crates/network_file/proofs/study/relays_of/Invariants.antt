@@ -1,5 +1,6 @@
 use Rattle.std.proofs.Common.{◌≡◌, [], drop, vec_len, All}
-use Rattle.coord_model.specs.Limits.{FitsRelay}
+use Rattle.std.specs.List.{AllPairs}
+use Rattle.coord_model.specs.Limits.{FitsRelay, StandTogether}
 use Rattle.network_file.specs.Fault.{each_after}
 use Rattle.network_file.specs.Fits.{study_with}
 use Rattle.network_file.specs.Study.{relay_names, next_relay}
@@ -11,4 +12,5 @@ invariant-loop-entry l = record {
   named : l.names.keys ≡ relay_names l.relays.items;
   so_far : each_after (next_relay l.grid.buses.keys l.grid.lines.items) l.relays.items (drop l.entry-index l.entries) ≡ each_after (next_relay l.grid.buses.keys l.grid.lines.items) [] l.entries;
   fits : All (FitsRelay (study_with l.grid.buses.keys l.grid.lines.items [])) l.relays.items;
+  apart : AllPairs (λ relay other. ¬ (StandTogether relay other)) l.relays.items;
 }

@@ -24,6 +24,7 @@ returns-clause-fits c =
       pickup_steps = rw (← c.deref-4.ensures.value, ← c.pickup_steps.ensures) c.in_ok-within-2.ensures.few;
       lines = lines_fit _ (rw buses c.in_ok-lines.ensures.fits);
       relays = relays_fit _ (rw buses c.in_ok-relays.ensures.fits);
+      apart = c.in_ok-relays.ensures.apart;
       faults = faults_fit _ (rw buses c.in_ok-faults.ensures.fits);
       exempt = pairs_fit _ (rw (← names) c.in_ok-exempt.ensures.within);
     }

@@ -2,7 +2,7 @@ use Rattle.std.proofs.Common.{◌≡◌, ◌++◌, map}
 use Rattle.std.specs.List.{range_with_len, filter}
 use Rattle.coord_model.specs.Rows.{backs}
 use Rattle.coord_model.specs.StudyData.{study_data}
-use Rattle.margin_rows.proofs.pairs.push_pairs_behind.Given as goal
+use Rattle.relay_pairs.proofs.backing.push_pairs_behind.Given as goal
 
 abbrev pub invariant-loop-backup : goal.invariant-loop-backup
 invariant-loop-backup l =

@@ -1,5 +1,6 @@
 -- What is in a list that is made of others.
-use Rattle.std.proofs.Common.{◌≡◌, ℕ, ◌<◌, Bool, true, false, cond, List, [], ◌∷◌, ◌++◌, map, zero, suc, arith, refl, sym, ap, ◌∙◌, ◌⊎◌, inl, inr, subst}
+use Rattle.std.proofs.Common.{◌≡◌, ℕ, ◌<◌, Bool, true, false, cond, List, [], ◌∷◌, map, zero, suc, arith, refl, sym, ap, ◌∙◌, ◌⊎◌, inl, inr, subst}
+use Rattle.std.proofs.lemmas.List.Elements.{Contains-append_cases, Contains-append_left, Contains-append_right}
 use Rattle.std.proofs.lemmas.List.FromFn.{length-range_with_len, get_or-range_with_len}
 use Rattle.std.specs.List.{range_with_len, filter, flat_map, Contains}
 
@@ -16,26 +17,6 @@ member_cases x y xs (suc k, h, e) = inr (k, omega arith, e)
 
 pub member_none : {X : Type 0} (y : X) → Contains [] y → ⊥
 member_none y (k, h, e) = omega arith
-
-pub member_append : {X : Type 0} (xs ys : List X) (y : X) → Contains (xs ++ ys) y → Contains xs y ⊎ Contains ys y
-member_append [] ys y h = inr h
-member_append (x ∷ xs) ys y h =
-    elim (member_cases x y (xs ++ ys) h) [
-      | inl e ↦ inl (member_here x y xs e)
-      | inr t ↦ elim (member_append xs ys y t) [ inl a ↦ inl (member_there x y xs a) | inr b ↦ inr b ]
-    ]
-
-pub append_left : {X : Type 0} (xs ys : List X) (y : X) → Contains xs y → Contains (xs ++ ys) y
-append_left [] ys y h = absurd (member_none y h)
-append_left (x ∷ xs) ys y h =
-    elim (member_cases x y xs h) [
-      | inl e ↦ member_here x y (xs ++ ys) e
-      | inr t ↦ member_there x y (xs ++ ys) (append_left xs ys y t)
-    ]
-
-pub append_right : {X : Type 0} (xs ys : List X) (y : X) → Contains ys y → Contains (xs ++ ys) y
-append_right [] ys y h = h
-append_right (x ∷ xs) ys y h = member_there x y (xs ++ ys) (append_right xs ys y h)
 
 -- an element of a mapped list comes from one of the list
 pub member_map : {X Y : Type 0} (f : X → Y) (xs : List X) (y : Y) → Contains (map f xs) y → (x : X) × Contains xs x × (f x ≡ y)
@@ -87,7 +68,7 @@ filter_member p (x ∷ xs) y h passes =
 pub member_flat_map : {X Y : Type 0} (f : X → List Y) (xs : List X) (y : Y) → Contains (flat_map f xs) y → (x : X) × Contains xs x × Contains (f x) y
 member_flat_map f [] y h = absurd (member_none y h)
 member_flat_map f (x ∷ xs) y h =
-    elim (member_append (f x) (flat_map f xs) y h) [
+    elim (Contains-append_cases (f x) (flat_map f xs) y h) [
       | inl a ↦ (x, member_here x x xs refl, a)
       | inr t ↦ let found = member_flat_map f xs y t in (found.0, member_there x found.0 xs found.1, found.2)
     ]
@@ -96,8 +77,8 @@ pub flat_map_member : {X Y : Type 0} (f : X → List Y) (xs : List X) (x : X) (y
 flat_map_member f [] x y h t = absurd (member_none x h)
 flat_map_member f (z ∷ xs) x y h t =
     elim (member_cases z x xs h) [
-      | inl e ↦ append_left (f z) (flat_map f xs) y (let P = λ (w : _). Contains (f w) y in subst P (sym e) t)
-      | inr s ↦ append_right (f z) (flat_map f xs) y (flat_map_member f xs x y s t)
+      | inl e ↦ Contains-append_left (f z) (flat_map f xs) y (let P = λ (w : _). Contains (f w) y in subst P (sym e) t)
+      | inr s ↦ Contains-append_right (f z) (flat_map f xs) y (flat_map_member f xs x y s t)
     ]
 
 -- the numbers from 0 are those below the count

@@ -1,16 +1,27 @@
-//! Which relays back which.
-ghost use Rattle.std.specs.Prelude.{◌≡◌, ◌<◌, ◌≤◌, ◌++◌, length, IfOk, OnOk};
+//! The pairs of a study.
+ghost use Rattle.std.specs.Prelude.{◌≡◌, ◌≢◌, ◌<◌, ◌≤◌, ◌↔◌, ◌++◌, length, Contains, IfOk, OnOk, IsTrue};
+ghost use Rattle.std.specs.List.{AllPairs};
 ghost use Rattle.coord_model.specs.Limits.{FitsStudy};
 ghost use Rattle.coord_model.specs.Rows.{backs, is_exempt, ends_at, looks_towards, pairs_behind, pairs_of};
 ghost use Rattle.coord_model.specs.StudyData.{study_data};
+ghost use Rattle.coord_model.specs.declared.study.Pair.{Pair};
+ghost use Rattle.relay_pairs.specs.Order.{ComesBefore};
 
 use coord_model::{Line, NoMemory, Pair, Relay, Study};
 use std::alloc::Global;
 
-/// The pairs of a study, by primary and then by backup, each once.
+/// The pairs of a study: which relay backs which, by the numbers of the relays.
+///
+/// They are listed by primary and then by backup, each once.
 pub fn pairs(alloc: Global, study: &Study) -> Result<Vec<Pair>, NoMemory>
     requires { FitsStudy (study_data study.now) }
-    ensures { IfOk result (λ pairs. pairs.items ≡ pairs_of (study_data study.now)) }
+
+    ensures exact { IfOk result (λ pairs. pairs.items ≡ pairs_of (study_data study.now)) }
+
+    // A pair is listed exactly where the one relay backs the other.
+    ensures listed { IfOk result (λ pairs. (pair : Pair) → Contains pairs.items pair ↔ IsTrue (backs (study_data study.now) pair.backup pair.primary)) }
+    ensures ordered { IfOk result (λ pairs. AllPairs ComesBefore pairs.items) }
+    ensures once { IfOk result (λ pairs. AllPairs (λ pair other. pair ≢ other) pairs.items) }
 {
     let mut pairs = Vec::new(alloc);
     for primary in 0..study.relays.len() as u16 {

@@ -1,7 +1,7 @@
 use Rattle.std.proofs.Common.{sym, ap, ◌∙◌}
-use Rattle.margin_rows.proofs.Counted.{kept_yes, kept_no}
-use Rattle.margin_rows.proofs.pairs.push_pairs_behind.Goals as goal
-use Rattle.margin_rows.proofs.pairs.push_pairs_behind.Goals.{then-backs+in_ok-push, else-backs}
+use Rattle.relay_pairs.proofs.Counted.{kept_yes, kept_no}
+use Rattle.relay_pairs.proofs.backing.push_pairs_behind.Goals as goal
+use Rattle.relay_pairs.proofs.backing.push_pairs_behind.Goals.{then-backs+in_ok-push, else-backs}
 
 pub loop-backup-preserved : goal.loop-backup-preserved
 loop-backup-preserved c =
