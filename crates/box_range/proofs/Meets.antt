@@ -1,23 +1,27 @@
 -- What the steps of a row's two relays say of the choices of a box.
 use Rattle.std.specs.Prelude.{slice_get, slice_index}
 use Rattle.std.specs.List.{Contains}
+use Rattle.std.specs.Option.{option_map_or}
 use Rattle.std.proofs.Common.{◌≡◌, ◌≢◌, ℕ, ◌+◌, ◌-◌, ◌*◌, ◌<◌, ◌≤◌, ◌↔◌, List, length, map, get_or, set, Option, Some, None, arith, refl, sym, ap, ◌∙◌, subst, inl, inr}
 use Rattle.std.proofs.Math.Nat.{mul-le-mul_left}
 use Rattle.std.proofs.lemmas.Bool.{cases_eq}
 use Rattle.std.proofs.lemmas.List.{length-map, length-set, get_or-set_same, get_or-set_other, get_or-map}
 use Rattle.std.proofs.lemmas.Nat.{mul-le}
 use Rattle.coord_model.specs.Choice.{Settings}
+use Rattle.coord_model.specs.StudyData.{StudyData}
+use Rattle.coord_model.specs.Time.{dial_at}
 use Rattle.coord_model.specs.declared.study.Relay.{Relay}
 use Rattle.coord_model.specs.declared.study.Row.{Row}
 use Rattle.margin_rows.specs.Box.{Box, IsIn, LiesIn, FitsBox, IsDialStep}
 use Rattle.margin_rows.specs.Case.{Case, rows_in, FitsCase}
+use Rattle.margin_rows.specs.Dial.{dial_at_step}
 use Rattle.margin_rows.specs.FirstBox.{IsFirstStep}
 use Rattle.margin_rows.specs.Margin.{MeetsLoosely, interval_ps}
 use Rattle.margin_rows.specs.Times.{time_at}
 use Rattle.margin_rows.specs.declared.span.Steps.{Steps}
 use Rattle.box_range.specs.Drops.{CanMeet}
 use Rattle.box_range.specs.Kinds.{spans_of, step_of, span_at, HasSteps}
-use Rattle.box_range.specs.Meeting.{IsFilled, IsMeetable, HasRelays, AreFirst, MeetsWith, relay_of, best_steps, with_step, dial_of_step}
+use Rattle.box_range.specs.Meeting.{IsFilled, IsMeetable, HasRelays, AreFirst, MeetsWith, relay_of, best_steps, with_step}
 use Rattle.box_range.specs.declared.kind.Kind.{Kind}
 use Rattle.box_range.specs.declared.kind.Kind.TheVariants.{Pickup, Dial}
 use Rattle.box_range.specs.declared.row.Part.{Part}
@@ -59,20 +63,23 @@ in_box_first case box row steps fits relays is = record {
 }
 
 -- a dial rises with its step
-dial_rises : (relay : Option Relay) (s t : ℕ) → s ≤ t → Rattle.std.specs.Option.option_map_or (λ (r : Relay). Rattle.coord_model.specs.Time.dial_at r s) relay 0 ≤ Rattle.std.specs.Option.option_map_or (λ (r : Relay). Rattle.coord_model.specs.Time.dial_at r t) relay 0
-dial_rises None s t le = omega arith
-dial_rises (Some relay) s t le = omega (arith, mul-le s relay.dial_step t relay.dial_step le (omega arith))
+dial_rises : (study : StudyData) (relay s t : ℕ) → s ≤ t → dial_at_step study relay s ≤ dial_at_step study relay t
+dial_rises study relay s t le = go (slice_get study.relays relay)
+  where
+    go : (o : Option Relay) → option_map_or (λ (r : Relay). dial_at r s) o 0 ≤ option_map_or (λ (r : Relay). dial_at r t) o 0
+    go None = omega arith
+    go (Some r) = omega (arith, mul-le s r.dial_step t r.dial_step le (omega arith))
 
 better_meets : (case : Case) (row : Row) (worse better : RowSteps) → FitsCase case → Contains (rows_in case) row → AreFirst case row worse → AreFirst case row better
     → AreBetter worse better → MeetsWith case row worse → MeetsWith case row better
 better_meets case row worse better fits there first_worse first_better is meets =
-    let early = primary_rises case row better.primary_pickup worse.primary_pickup fits there first_better.primary_pickup first_worse.primary_pickup is.primary_pickup in
-    let late = backup_rises case row worse.backup_pickup better.backup_pickup fits there first_worse.backup_pickup first_better.backup_pickup is.backup_pickup in
-    let low = dial_rises (slice_get case.study.relays row.primary) better.primary_dial worse.primary_dial is.primary_dial in
-    let high = dial_rises (slice_get case.study.relays row.backup) worse.backup_dial better.backup_dial is.backup_dial in
-    join (dial_of_step case.study row.primary better.primary_dial) (dial_of_step case.study row.primary worse.primary_dial)
+    let early = primary_rises case row better.primary_pickup worse.primary_pickup fits there is.primary_pickup first_better.primary_pickup first_worse.primary_pickup in
+    let late = backup_rises case row worse.backup_pickup better.backup_pickup fits there is.backup_pickup first_worse.backup_pickup first_better.backup_pickup in
+    let low = dial_rises case.study row.primary better.primary_dial worse.primary_dial is.primary_dial in
+    let high = dial_rises case.study row.backup worse.backup_dial better.backup_dial is.backup_dial in
+    join (dial_at_step case.study row.primary better.primary_dial) (dial_at_step case.study row.primary worse.primary_dial)
     (time_at case row.fault row.primary better.primary_pickup).lower (time_at case row.fault row.primary worse.primary_pickup).lower
-    (dial_of_step case.study row.backup worse.backup_dial) (dial_of_step case.study row.backup better.backup_dial)
+    (dial_at_step case.study row.backup worse.backup_dial) (dial_at_step case.study row.backup better.backup_dial)
     (time_at case row.fault row.backup worse.backup_pickup).upper (time_at case row.fault row.backup better.backup_pickup).upper
     (interval_ps case.study) low early high late meets
   where

@@ -7,6 +7,7 @@ use Rattle.coord_model.specs.Time.{dial_at}
 use Rattle.coord_model.specs.declared.study.Row.{Row}
 use Rattle.margin_rows.specs.Box.{Box, FitsBox, LiesIn, IsDialStep}
 use Rattle.margin_rows.specs.Case.{Case, rows_in, FitsCase}
+use Rattle.margin_rows.specs.Dial.{dial_at_step}
 use Rattle.margin_rows.specs.FirstBox.{IsFirstStep}
 use Rattle.margin_rows.specs.Margin.{interval_ps, MeetsLoosely}
 use Rattle.margin_rows.specs.Times.{time_at}
@@ -66,12 +67,8 @@ with_step Backup Dial steps step = record steps { backup_dial = step }
 with_step Primary Pickup steps step = record steps { primary_pickup = step }
 with_step Primary Dial steps step = record steps { primary_dial = step }
 
--- the dial of a relay at a step, in thousandths
-abbrev pub dial_of_step : StudyData → ℕ → ℕ → ℕ
-dial_of_step study relay step = option_map_or (λ r. dial_at r step) (slice_get study.relays relay) 0
-
 -- the row is loosely met with these steps of its relays
 abbrev pub MeetsWith : Case → Row → RowSteps → Type 0
 MeetsWith case row steps =
-    dial_of_step case.study row.primary steps.primary_dial * (time_at case row.fault row.primary steps.primary_pickup).lower + interval_ps case.study
-      ≤ dial_of_step case.study row.backup steps.backup_dial * (time_at case row.fault row.backup steps.backup_pickup).upper
+    dial_at_step case.study row.primary steps.primary_dial * (time_at case row.fault row.primary steps.primary_pickup).lower + interval_ps case.study
+      ≤ dial_at_step case.study row.backup steps.backup_dial * (time_at case row.fault row.backup steps.backup_pickup).upper
