@@ -8,3 +8,5 @@ pub mod Shown
 pub mod Cuts
 pub mod Narrowed
 pub mod Looked
+pub mod Visited
+pub mod Rounded

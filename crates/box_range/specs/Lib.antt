@@ -3,3 +3,4 @@ pub mod Drops
 pub mod Meeting
 pub mod Settled
 pub mod Looks
+pub mod Rounds

@@ -6,4 +6,5 @@
 mod ends;
 mod kind;
 mod look;
+mod round;
 mod row;
