@@ -10,3 +10,6 @@ pub mod Narrowed
 pub mod Looked
 pub mod Visited
 pub mod Rounded
+pub mod Tight
+pub mod Ended
+pub mod Begun

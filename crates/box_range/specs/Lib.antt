@@ -4,3 +4,4 @@ pub mod Meeting
 pub mod Settled
 pub mod Looks
 pub mod Rounds
+pub mod Ends

@@ -8,3 +8,6 @@ mod kind;
 mod look;
 mod round;
 mod row;
+mod tightening;
+
+pub use tightening::{Tightened, tighten};
