@@ -33,8 +33,13 @@ none_flagged relay =
 
 -- a span that is shown as empty is empty
 pub empty_shown : (box : Box) (kind : Kind) (relay : ℕ) (shown : Span) → relay < length (spans_of kind box) → IsShownAs (span_at kind box relay) shown → shown.hi < shown.lo → HasEmptySpan box
-empty_shown box kind relay shown below is crossed =
-    (kind, relay, span_at kind box relay, span_has box kind relay below, elim (cases_lt (span_at kind box relay).low (span_at kind box relay).past) [
-      | inl some ↦ absurd (omega (arith, (is.steps some).0, (is.steps some).1, crossed, some))
-      | inr empty ↦ empty
-    ])
+empty_shown box kind relay shown below is crossed = (
+  kind,
+  relay,
+  span_at kind box relay,
+  span_has box kind relay below,
+  elim (cases_lt (span_at kind box relay).low (span_at kind box relay).past) [
+    | inl some ↦ absurd (omega (arith, (is.steps some).0, (is.steps some).1, crossed, some))
+    | inr empty ↦ empty
+  ],
+)

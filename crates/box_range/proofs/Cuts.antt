@@ -43,7 +43,7 @@ low_chain case kind (suc n) box relay low past below is fits each =
     } in
     let within = narrowed_within kind box relay rest below (rw is (omega arith)) (rw is (omega arith)) in
     let more = low_chain case kind n later relay (suc low) past (omega (arith, below, with_count kind kind box relay rest)) (with_same kind box relay rest below) (omega (arith, fits))
-      (λ step from before. droppable_within case later box kind relay step within (each step (omega (arith, from)) (omega (arith, before)))) in
+    (λ step from before. droppable_within case later box kind relay step within (each step (omega (arith, from)) (omega (arith, before)))) in
     let same : suc low + n ≡ low + suc n = omega arith in
     next drop (rw same at (rw (with_twice kind box relay rest (record { low = suc low + n; past = past })) at more))
 
@@ -71,7 +71,7 @@ high_chain case kind (suc n) box relay low past below is fits each =
     } in
     let within = narrowed_within kind box relay rest below (rw is (omega arith)) (rw is (omega arith)) in
     let more = high_chain case kind n later relay low past (omega (arith, below, with_count kind kind box relay rest)) (with_same kind box relay rest below) fits
-      (λ step from before. droppable_within case later box kind relay step within (each step from (omega (arith, before)))) in
+    (λ step from before. droppable_within case later box kind relay step within (each step from (omega (arith, before)))) in
     next drop (subst (λ (p : ℕ). Drops case (with_span kind box relay (record { low = low; past = p })) (with_span kind box relay (record { low = low; past = past }))) (sym one_less)
     (rw (with_twice kind box relay rest (record { low = low; past = past })) at more))
 
@@ -85,17 +85,17 @@ cut_low case box row kind low fits there from to unmet =
     let below = (relay_counts case box row fits there).backup kind in
     let sum : span.low + (low - span.low) ≡ low = omega (arith, from) in
     let chain = low_chain case kind (low - span.low) box row.backup span.low span.past below refl (omega (arith, sum, to))
-      (λ step after before. record { row = row; listed = there; unmet = unmet step after (omega (arith, before, sum)) }) in
+    (λ step after before. record { row = row; listed = there; unmet = unmet step after (omega (arith, before, sum)) }) in
     record {
       drops = rw sum at chain;
       kept = λ settings h meets.
-        let is = lies_at box settings kind row.backup h below in
-        let met : CanMeet case box kind row.backup (step_of kind settings row.backup) row = record { settings = settings; lies = h; has = refl; meets = meets } in
-        let left : low ≤ step_of kind settings row.backup = elim (cases_lt (step_of kind settings row.backup) low) [
+          let is = lies_at box settings kind row.backup h below in
+          let met : CanMeet case box kind row.backup (step_of kind settings row.backup) row = record { settings = settings; lies = h; has = refl; meets = meets } in
+          let left : low ≤ step_of kind settings row.backup = elim (cases_lt (step_of kind settings row.backup) low) [
             | inl lower ↦ absurd (unmet (step_of kind settings row.backup) is.from lower met)
             | inr higher ↦ higher
           ] in
-        lies_narrowed kind box row.backup (record { low = low; past = span.past }) settings below h (record { from = left; before = is.before });
+          lies_narrowed kind box row.backup (record { low = low; past = span.past }) settings below h (record { from = left; before = is.before });
     }
 
 -- the highest steps of the primary, with which the row cannot be met, are cut
@@ -109,17 +109,17 @@ cut_high case box row kind past fits there from to unmet =
     let sum : past + (span.past - past) ≡ span.past = omega (arith, to) in
     let is_span : span_at kind box row.primary ≡ (record { low = span.low; past = past + (span.past - past) }) = rw sum refl in
     let chain = high_chain case kind (span.past - past) box row.primary span.low past below is_span from
-      (λ step after before. record { row = row; listed = there; unmet = unmet step after (omega (arith, before, sum)) }) in
+    (λ step after before. record { row = row; listed = there; unmet = unmet step after (omega (arith, before, sum)) }) in
     record {
       drops = chain;
       kept = λ settings h meets.
-        let is = lies_at box settings kind row.primary h below in
-        let met : CanMeet case box kind row.primary (step_of kind settings row.primary) row = record { settings = settings; lies = h; has = refl; meets = meets } in
-        let left : step_of kind settings row.primary < past = elim (cases_lt (step_of kind settings row.primary) past) [
+          let is = lies_at box settings kind row.primary h below in
+          let met : CanMeet case box kind row.primary (step_of kind settings row.primary) row = record { settings = settings; lies = h; has = refl; meets = meets } in
+          let left : step_of kind settings row.primary < past = elim (cases_lt (step_of kind settings row.primary) past) [
             | inl lower ↦ lower
             | inr higher ↦ absurd (unmet (step_of kind settings row.primary) higher is.before met)
           ] in
-        lies_narrowed kind box row.primary (record { low = span.low; past = past }) settings below h (record { from = is.from; before = left });
+          lies_narrowed kind box row.primary (record { low = span.low; past = past }) settings below h (record { from = is.from; before = left });
     }
 
 pub both_kinds : (P : Kind → Type 0) → P Pickup → P Dial → (kind : Kind) → P kind

@@ -116,9 +116,9 @@ chosen_in spans b high p low i apart below some is_b is_p =
       | inr off_b ↦ elim (cases_eq i p) [
         | inl at_p ↦ rw at_p (rw (chosen_primary spans b high p low apart (rw at_p at below)) is_p)
         | inr off_p ↦
-          let same = get_or-set_other (set (map (λ (span : Steps). span.low) spans) p low) b i high 0 off_b
+            let same = get_or-set_other (set (map (λ (span : Steps). span.low) spans) p low) b i high 0 off_b
             ∙ get_or-set_other (map (λ (span : Steps). span.low) spans) p i low 0 off_p ∙ get_or-map (λ (span : Steps). span.low) spans i no_span 0 below in
-          rw same (record { from = omega arith; before = some })
+            rw same (record { from = omega arith; before = some })
       ]
     ]
 

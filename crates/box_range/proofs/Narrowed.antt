@@ -28,7 +28,7 @@ module _ (case : Case) (box later : Box) (row : Row) (kind : Kind) (filled : IsF
       → CanMeet case box kind row.backup low row → MeetsAtLow case later row kind
   raised_end low past is cut m =
       let at : (span_at kind later row.backup).low ≡ low =
-        rw is (ap (λ (s : Steps). s.low) (with_same kind box row.backup (record { low = low; past = past }) ((relay_counts case box row filled.fits there).backup kind))) in
+      rw is (ap (λ (s : Steps). s.low) (with_same kind box row.backup (record { low = low; past = past }) ((relay_counts case box row filled.fits there).backup kind))) in
       rw at (cut_can case row box later kind row.backup low cut m)
 
   pub lowered : (high : ℕ) → AreEnds (span_at kind box row.primary) shown → shown.lo ≤ high → high ≤ shown.hi
@@ -42,6 +42,6 @@ module _ (case : Case) (box later : Box) (row : Row) (kind : Kind) (filled : IsF
       → CanMeet case box kind row.primary high row → MeetsAtHigh case later row kind
   lowered_end low high is cut m =
       let at : (span_at kind later row.primary).past ≡ high + 1 =
-        rw is (ap (λ (s : Steps). s.past) (with_same kind box row.primary (record { low = low; past = high + 1 }) ((relay_counts case box row filled.fits there).primary kind))) in
+      rw is (ap (λ (s : Steps). s.past) (with_same kind box row.primary (record { low = low; past = high + 1 }) ((relay_counts case box row filled.fits there).primary kind))) in
       let last : (span_at kind later row.primary).past - 1 ≡ high = omega (arith, at) in
       rw last (cut_can case row box later kind row.primary high cut m)

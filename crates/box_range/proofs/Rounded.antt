@@ -45,8 +45,8 @@ one_more case number row P Q has here rest place other other_has =
       | inr q ↦ inr q
       | inl p ↦ elim (cases_eq place number) [
         | inl same ↦
-          let found : slice_get (rows_in case) number ≡ Some other = rw same at other_has in
-          inr (subst (λ (n : ℕ). Q n other) (sym same) (subst (λ (r : Row). Q number r) (same_row row other (sym has ∙ found)) here))
+            let found : slice_get (rows_in case) number ≡ Some other = rw same at other_has in
+            inr (subst (λ (n : ℕ). Q n other) (sym same) (subst (λ (r : Row). Q number r) (same_row row other (sym has ∙ found)) here))
         | inr off ↦ inl (omega (arith, off, p.0), p.1)
       ]
     ]
@@ -62,7 +62,7 @@ up_to_idle case start box later due begun flags later_flags moved number row has
   filled = rw idle.same_box so.filled;
   places = rw idle.same_flags so.places;
   rest = one_more case number row (λ p r. IsDue due r) (λ p r. IsDueOrSettled case later later_flags r) has (inr idle.settled)
-    (rw (idle.same_box, idle.same_flags) so.rest);
+      (rw (idle.same_box, idle.same_flags) so.rest);
   same_box = λ calm. idle.same_box ∙ so.same_box calm;
   same_flags = λ calm. idle.same_flags ∙ so.same_flags calm;
   fewer = rw idle.same_box so.fewer;
@@ -76,7 +76,7 @@ up_to_busy case start box later due begun flags later_flags moved number row has
   filled = busy.filled;
   places = busy.count ∙ so.places;
   rest = one_more case number row (λ p r. IsDue due r) (λ p r. IsDueOrSettled case later later_flags r) has (inr busy.settled)
-    (λ place other other_has. elim (so.rest place other other_has) [ inl p ↦ inl p | inr q ↦ inr (busy.others other (listed case place other other_has) q) ]);
+      (λ place other other_has. elim (so.rest place other other_has) [ inl p ↦ inl p | inr q ↦ inr (busy.others other (listed case place other other_has) q) ]);
   same_box = λ calm. let absurdly : true ≡ false = calm in cc;
   same_flags = λ calm. let absurdly : true ≡ false = calm in cc;
   fewer = λ moved. omega (arith, busy.fewer, most);
@@ -107,8 +107,10 @@ none_due flags row clear due = elim due [ inl b ↦ flag_clear flags row.backup 
 
 pub round_kept : (case : Case) (start box : Box) (due begun flags : List Bool) (number : ℕ) → IsUpTo case start box due begun flags false number → length (rows_in case) ≤ number
     → ((relay : ℕ) → slice_index_or begun relay false ≡ false) → (box ≡ start) × AreSettled case box
-round_kept case start box due begun flags number so all clear =
-    (so.same_box refl, λ row there. elim (rest_left case start box due begun flags false number so all row there) [
-      | inl due_still ↦ absurd (none_due begun row clear (rw (so.same_flags refl) at due_still))
-      | inr settled ↦ settled
-    ])
+round_kept case start box due begun flags number so all clear = (
+  so.same_box refl,
+  λ row there. elim (rest_left case start box due begun flags false number so all row there) [
+    | inl due_still ↦ absurd (none_due begun row clear (rw (so.same_flags refl) at due_still))
+    | inr settled ↦ settled
+  ],
+)

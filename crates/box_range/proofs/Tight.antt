@@ -30,12 +30,12 @@ set_in : (spans : List Steps) (steps : List ℕ) (relay step : ℕ) → relay < 
 set_in spans steps relay step below are is = record {
   count = length-set steps relay step ∙ are.count;
   each = each_some spans (λ i span. IsIn span (slice_index (set steps relay step) i)) no_span (λ i inside.
-    elim (cases_eq i relay) [
-      | inl same ↦
-        let there : relay < length steps = omega (arith, below, are.count) in
-        rw same (rw (get_or-set_same steps relay step 0 there) is)
-      | inr other ↦ rw (get_or-set_other steps relay i step 0 other) (some_each spans (λ j span. IsIn span (slice_index steps j)) no_span are.each i inside)
-    ]);
+      elim (cases_eq i relay) [
+        | inl same ↦
+            let there : relay < length steps = omega (arith, below, are.count) in
+            rw same (rw (get_or-set_same steps relay step 0 there) is)
+        | inr other ↦ rw (get_or-set_other steps relay i step 0 other) (some_each spans (λ j span. IsIn span (slice_index steps j)) no_span are.each i inside)
+      ]);
 }
 
 setting_lies : (kind : Kind) (box : Box) (settings : Settings) (relay step : ℕ) → relay < length (spans_of kind box) → LiesIn box settings → IsIn (span_at kind box relay) step
@@ -86,12 +86,12 @@ module _ (case : Case) (box : Box) (row : Row) (filled : IsFilled case box) (the
   end_can side kind relay below some =
       elim (cases_eq row.backup relay) [
         | inl same ↦ subst (λ (r : ℕ). CanMeet case box kind r (end_of side (span_at kind box r)) row) same
-          (backup_can side kind (subst (λ (r : ℕ). (span_at kind box r).low < (span_at kind box r).past) (sym same) some))
+            (backup_can side kind (subst (λ (r : ℕ). (span_at kind box r).low < (span_at kind box r).past) (sym same) some))
         | inr not_backup ↦ elim (cases_eq row.primary relay) [
           | inl same ↦ subst (λ (r : ℕ). CanMeet case box kind r (end_of side (span_at kind box r)) row) same
-          (primary_can side kind (subst (λ (r : ℕ). (span_at kind box r).low < (span_at kind box r).past) (sym same) some))
+              (primary_can side kind (subst (λ (r : ℕ). (span_at kind box r).low < (span_at kind box r).past) (sym same) some))
           | inr not_primary ↦ other_can case box row kind relay (end_of side (span_at kind box relay)) (span_at Pickup box row.backup).low row.backup Pickup not_backup not_primary below
-            (end_in side (span_at kind box relay) some) (settled.low Pickup)
+              (end_in side (span_at kind box relay) some) (settled.low Pickup)
         ]
       ]
 
@@ -99,9 +99,9 @@ pub tight_of : (case : Case) (box : Box) → IsFilled case box → AreSettled ca
 tight_of case box filled settled = record {
   steps = filled.steps;
   no_drop = λ drop.
-    let at = has_span box drop.kind drop.relay drop.span drop.stands in
-    let row = drop.droppable.row in
-    let some : (span_at drop.kind box drop.relay).low < (span_at drop.kind box drop.relay).past = rw at.1 drop.steps in
-    let can = end_can case box row filled drop.droppable.listed (settled row drop.droppable.listed) drop.side drop.kind drop.relay at.0 some in
-    drop.droppable.unmet (rw at.1 at can);
+      let at = has_span box drop.kind drop.relay drop.span drop.stands in
+      let row = drop.droppable.row in
+      let some : (span_at drop.kind box drop.relay).low < (span_at drop.kind box drop.relay).past = rw at.1 drop.steps in
+      let can = end_can case box row filled drop.droppable.listed (settled row drop.droppable.listed) drop.side drop.kind drop.relay at.0 some in
+      drop.droppable.unmet (rw at.1 at can);
 }

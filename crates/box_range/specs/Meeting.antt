@@ -71,4 +71,4 @@ with_step Primary Dial steps step = record steps { primary_dial = step }
 abbrev pub MeetsWith : Case → Row → RowSteps → Type 0
 MeetsWith case row steps =
     dial_at_step case.study row.primary steps.primary_dial * (time_at case row.fault row.primary steps.primary_pickup).lower + interval_ps case.study
-      ≤ dial_at_step case.study row.backup steps.backup_dial * (time_at case row.fault row.backup steps.backup_pickup).upper
+    ≤ dial_at_step case.study row.backup steps.backup_dial * (time_at case row.fault row.backup steps.backup_pickup).upper

@@ -54,7 +54,14 @@ pub fn lower(inst: &Instance, ranges: &mut Ranges, at: Place, kind: Kind) -> boo
 }
 
 /// The lowest step of the backup from `low` to `high` with which the row can be met; it can with `high`.
-fn lowest(inst: &Instance, ranges: &Ranges, at: Place, kind: Kind, mut low: u16, mut high: u16) -> u16
+fn lowest(
+    inst: &Instance,
+    ranges: &Ranges,
+    at: Place,
+    kind: Kind,
+    mut low: u16,
+    mut high: u16,
+) -> u16
     requires filled { IsFilled inst.now ranges.now }
     requires place { HasRow inst.now at.number at.row }
     requires low { IsIn (span_at kind ranges.now at.row.backup) low }
@@ -78,7 +85,14 @@ fn lowest(inst: &Instance, ranges: &Ranges, at: Place, kind: Kind, mut low: u16,
 }
 
 /// The highest step of the primary from `low` to `high` with which the row can be met; it can with `low`.
-fn highest(inst: &Instance, ranges: &Ranges, at: Place, kind: Kind, mut low: u16, mut high: u16) -> u16
+fn highest(
+    inst: &Instance,
+    ranges: &Ranges,
+    at: Place,
+    kind: Kind,
+    mut low: u16,
+    mut high: u16,
+) -> u16
     requires filled { IsFilled inst.now ranges.now }
     requires place { HasRow inst.now at.number at.row }
     requires low { IsIn (span_at kind ranges.now at.row.primary) low }

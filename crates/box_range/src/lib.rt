@@ -11,3 +11,6 @@ mod row;
 mod tightening;
 
 pub use tightening::{Tightened, tighten};
+
+#[cfg(test)]
+mod tests;

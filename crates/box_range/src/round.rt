@@ -42,7 +42,11 @@ pub fn round(inst: &Instance, ranges: &mut Ranges, due: &[bool], next: &mut [boo
             Progress::Advanced => moved = true,
         }
     }
-    if moved { Progress::Advanced } else { Progress::Kept }
+    if moved {
+        Progress::Advanced
+    } else {
+        Progress::Kept
+    }
 }
 
 /// The row with a number.
@@ -58,7 +62,13 @@ fn place(inst: &Instance, number: u16) -> Place
 }
 
 /// Looks at a row if one of its relays is due, or lost steps in this round.
-fn visit(inst: &Instance, ranges: &mut Ranges, at: Place, due: &[bool], next: &mut [bool]) -> Progress
+fn visit(
+    inst: &Instance,
+    ranges: &mut Ranges,
+    at: Place,
+    due: &[bool],
+    next: &mut [bool],
+) -> Progress
     requires filled { IsFilled inst.now ranges.old }
     requires places { length next.old ≡ 96 }
     requires place { HasRow inst.now at.number at.row }

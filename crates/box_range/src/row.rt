@@ -43,7 +43,14 @@ pub fn is_meetable(inst: &Instance, ranges: &Ranges, at: Place) -> bool
 }
 
 /// Whether some choice of the box with this step of one of the row's relays loosely meets the row.
-pub fn can_meet(inst: &Instance, ranges: &Ranges, at: Place, part: Part, kind: Kind, step: u16) -> bool
+pub fn can_meet(
+    inst: &Instance,
+    ranges: &Ranges,
+    at: Place,
+    part: Part,
+    kind: Kind,
+    step: u16,
+) -> bool
     requires filled { IsFilled inst.now ranges.now }
     requires place { HasRow inst.now at.number at.row }
     requires step { IsIn (span_at kind ranges.now (relay_of part at.row)) step }
@@ -80,8 +87,14 @@ fn with_backup(steps: RowSteps, kind: Kind, step: u16) -> RowSteps
     ensures { result ≡ with_step Part.Backup kind steps step }
 {
     match kind {
-        Kind::Pickup => RowSteps { backup_pickup: step, ..steps },
-        Kind::Dial => RowSteps { backup_dial: step, ..steps },
+        Kind::Pickup => RowSteps {
+            backup_pickup: step,
+            ..steps
+        },
+        Kind::Dial => RowSteps {
+            backup_dial: step,
+            ..steps
+        },
     }
 }
 
@@ -89,8 +102,14 @@ fn with_primary(steps: RowSteps, kind: Kind, step: u16) -> RowSteps
     ensures { result ≡ with_step Part.Primary kind steps step }
 {
     match kind {
-        Kind::Pickup => RowSteps { primary_pickup: step, ..steps },
-        Kind::Dial => RowSteps { primary_dial: step, ..steps },
+        Kind::Pickup => RowSteps {
+            primary_pickup: step,
+            ..steps
+        },
+        Kind::Dial => RowSteps {
+            primary_dial: step,
+            ..steps
+        },
     }
 }
 

@@ -27,10 +27,10 @@ loop-number-preserved c =
     let so = c.loop-number.invariant in
     elim c.match-visit.branch [
       | in-Kept w ↦ subst (λ (b : Bool). IsUpTo case start later due begun later_flags b (number + 1)) (sym w.moved-is)
-        (up_to_idle case start box later due begun flags later_flags moved number c.place.result.row c.place.ensures.row so w.in-Kept.ensures.drops w.in-Kept.ensures.made)
+          (up_to_idle case start box later due begun flags later_flags moved number c.place.result.row c.place.ensures.row so w.in-Kept.ensures.drops w.in-Kept.ensures.made)
       | in-Advanced w ↦ subst (λ (b : Bool). IsUpTo case start later due begun later_flags b (number + 1)) (sym w.moved-is)
-        (up_to_busy case start box later due begun flags later_flags moved number c.place.result.row c.place.ensures.row so w.in-Advanced.ensures.drops w.in-Advanced.ensures.made
-        (up_to_most case start box due begun flags moved number so))
+          (up_to_busy case start box later due begun flags later_flags moved number c.place.result.row c.place.ensures.row so w.in-Advanced.ensures.drops w.in-Advanced.ensures.made
+          (up_to_most case start box due begun flags moved number so))
     ]
 
 pub returns-then-moved-clause-made : goal.returns-then-moved-clause-made

@@ -17,7 +17,7 @@ pub returns-then-moved-2-clause-made : goal.returns-then-moved-2-clause-made
 returns-then-moved-2-clause-made c =
     let moved = c.in-Settled.moved in
     let some : (moved.backup ≡ true) ⊎ (moved.primary ≡ true) = elim c.if-moved.branch [
-        | then-moved w ↦ inl w.if-moved.true
-        | else-moved w ↦ inr (sym w.value-is ∙ c.if-moved-2.true)
-      ] in
+      | then-moved w ↦ inl w.if-moved.true
+      | else-moved w ↦ inr (sym w.value-is ∙ c.if-moved-2.true)
+    ] in
     busy c.args.inst.now c.args.at.row c.args.ranges.now c.look_at.new.ranges moved c.args.next.now c.flag.new.next c.requires.filled c.in-Settled.ensures.made c.flag.ensures some

@@ -20,6 +20,7 @@ pub returns : goal.returns
 returns c =
     let case = c.args.inst.now in
     let there = listed case c.args.at.number c.args.at.row c.requires.place in
-    let exact = rw c.best.ensures at c.meets.ensures in
-    (λ yes. best_meetable case c.args.ranges.now c.args.at.row c.requires.filled there (exact.0 yes),
-     λ m. exact.1 (meetable_best case c.args.ranges.now c.args.at.row c.requires.filled there m))
+    let exact = rw c.best.ensures at c.meets.ensures in (
+      λ yes. best_meetable case c.args.ranges.now c.args.at.row c.requires.filled there (exact.0 yes),
+      λ m. exact.1 (meetable_best case c.args.ranges.now c.args.at.row c.requires.filled there m),
+    )
