@@ -73,6 +73,10 @@ fn lowest(
     ensures met { CanMeet inst.now ranges.now kind at.row.backup result at.row }
     ensures unmet_below { (step : ℕ) → low ≤ step → step < result → ¬ (CanMeet inst.now ranges.now kind at.row.backup step at.row) }
 {
+    // Mostly there is nothing to cut.
+    if can_meet(inst, ranges, at, Part::Backup, kind, low) {
+        return low;
+    }
     'search: while low < high {
         let middle = low + (high - low) / 2;
         if can_meet(inst, ranges, at, Part::Backup, kind, middle) {
@@ -104,6 +108,10 @@ fn highest(
     ensures met { CanMeet inst.now ranges.now kind at.row.primary result at.row }
     ensures unmet_above { (step : ℕ) → result < step → step ≤ high → ¬ (CanMeet inst.now ranges.now kind at.row.primary step at.row) }
 {
+    // Mostly there is nothing to cut.
+    if can_meet(inst, ranges, at, Part::Primary, kind, high) {
+        return high;
+    }
     'search: while low < high {
         let middle = high - (high - low) / 2;
         if can_meet(inst, ranges, at, Part::Primary, kind, middle) {

@@ -1,4 +1,4 @@
-//! The tight box: what is left of a box once no choice at an end of a span is of use.
+//! The tight box: what is left of a box once each end of a span that no choice can use is dropped.
 //!
 //! Spans are of steps, pickup steps and dial steps. Which box is tightened, and what becomes of it, is left to others.
 #![tactic(auto)]
