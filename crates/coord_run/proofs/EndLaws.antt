@@ -12,7 +12,7 @@ use Rattle.coord_run.specs.Settlement.{HandsOver, IsCaseRefusal, IsFound}
 use Rattle.coord_run.specs.Solve.{HasCause, IsSettled, Solves, StopsFor, no_memory, refused, settled, unwritten}
 use Rattle.coord_run.specs.Words.{SolveNames}
 use Rattle.coord_run.specs.declared.refusal.Refusal.{Refusal}
-use Rattle.coord_run.specs.declared.refusal.Refusal.TheVariants.{Missing, ReadFault, TooLong, Network, Table, NoPrimary, CurveNotBuilt, StepsNotBuilt, TooManyRows}
+use Rattle.coord_run.specs.declared.refusal.Refusal.TheVariants.{Missing, ReadFault, TooLong, Network, Table, NoPrimary, StepsNotBuilt, TooManyRows}
 use Rattle.coord_run.specs.declared.refusal.Stop.{Stop}
 use Rattle.coord_run.specs.declared.refusal.Stop.TheVariants as stop
 use Rattle.coord_run.specs.declared.settle.Settlement.{Settlement}
@@ -24,7 +24,6 @@ pub case_cause : (names : SolveNames) (before after : Folder) (case : Case) (sto
     → StopsFor stop (IsCaseRefusal case) → StopsFor stop (HasCause names before after)
 case_cause names before after case stop.NoMemory read cause = tt
 case_cause names before after case (stop.Refused TooManyRows) read cause = (case.study, case.currents, read, cause)
-case_cause names before after case (stop.Refused (CurveNotBuilt curve)) read cause = (case.study, case.currents, read, cause)
 case_cause names before after case (stop.Refused StepsNotBuilt) read cause = (case.study, case.currents, read, cause)
 case_cause names before after case (stop.Refused (Missing file)) read cause = absurd cause
 case_cause names before after case (stop.Refused (ReadFault file)) read cause = absurd cause

@@ -15,7 +15,7 @@ use Rattle.coord_run.specs.Solve.{CameTo, HasCause, HasFileCause, HasTableCause,
 use Rattle.coord_run.specs.Words.{SolveNames}
 use Rattle.coord_run.specs.declared.refusal.Input.TheVariants as input
 use Rattle.coord_run.specs.declared.refusal.Refusal.{Refusal}
-use Rattle.coord_run.specs.declared.refusal.Refusal.TheVariants.{Missing, ReadFault, TooLong, Network, Table, NoPrimary, CurveNotBuilt, StepsNotBuilt, TooManyRows}
+use Rattle.coord_run.specs.declared.refusal.Refusal.TheVariants.{Missing, ReadFault, TooLong, Network, Table, NoPrimary, StepsNotBuilt, TooManyRows}
 use Rattle.coord_run.specs.declared.refusal.Stop.{Stop}
 use Rattle.coord_run.specs.declared.refusal.Stop.TheVariants as stop
 use Rattle.fault_table.specs.Table.{currents_of}
@@ -73,7 +73,6 @@ network_read names before after (stop.Refused (TooLong file)) cause =
 network_read names before after (stop.Refused (Network f)) cause = absurd cause
 network_read names before after (stop.Refused (Table f)) cause = absurd cause
 network_read names before after (stop.Refused (NoPrimary f)) cause = absurd cause
-network_read names before after (stop.Refused (CurveNotBuilt f)) cause = absurd cause
 network_read names before after (stop.Refused StepsNotBuilt) cause = absurd cause
 network_read names before after (stop.Refused TooManyRows) cause = absurd cause
 
@@ -103,7 +102,6 @@ table_read names before after study (stop.Refused (TooLong file)) cause = cause
 table_read names before after study (stop.Refused (Network f)) cause = absurd cause
 table_read names before after study (stop.Refused (Table f)) cause = absurd cause
 table_read names before after study (stop.Refused (NoPrimary f)) cause = absurd cause
-table_read names before after study (stop.Refused (CurveNotBuilt f)) cause = absurd cause
 table_read names before after study (stop.Refused StepsNotBuilt) cause = absurd cause
 table_read names before after study (stop.Refused TooManyRows) cause = absurd cause
 
@@ -147,7 +145,6 @@ second_read names before between after study (stop.Refused (NoPrimary name)) fir
   told_last before between after (λ m. HasTableFault m names.currents study (fault.NoPrimary cause.0)) first.stay cause.1,
   cause.2,
 )
-second_read names before between after study (stop.Refused (CurveNotBuilt f)) first later network cause = absurd cause
 second_read names before between after study (stop.Refused StepsNotBuilt) first later network cause = absurd cause
 second_read names before between after study (stop.Refused TooManyRows) first later network cause = absurd cause
 

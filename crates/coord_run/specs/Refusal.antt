@@ -3,12 +3,12 @@ use Rattle.std.specs.Prelude.{ℕ, List, [], ◌++◌, codes}
 use Rattle.std.specs.Fmt.{decimal}
 use Rattle.coord_model.specs.declared.kinds.What.TheVariants as what
 use Rattle.coord_run.specs.Inputs.{most_bytes}
-use Rattle.coord_run.specs.RefusalText.{curve_word, network_text, record_text, too_many_text}
+use Rattle.coord_run.specs.RefusalText.{network_text, record_text, too_many_text}
 use Rattle.coord_run.specs.Words.{SolveNames}
 use Rattle.coord_run.specs.declared.refusal.Input.{Input}
 use Rattle.coord_run.specs.declared.refusal.Input.TheVariants as input
 use Rattle.coord_run.specs.declared.refusal.Refusal.{Refusal}
-use Rattle.coord_run.specs.declared.refusal.Refusal.TheVariants.{Missing, ReadFault, TooLong, Network, Table, NoPrimary, CurveNotBuilt, StepsNotBuilt, TooManyRows}
+use Rattle.coord_run.specs.declared.refusal.Refusal.TheVariants.{Missing, ReadFault, TooLong, Network, Table, NoPrimary, StepsNotBuilt, TooManyRows}
 use Rattle.fault_table.specs.declared.fault.TableFault.{TableFault}
 use Rattle.fault_table.specs.declared.fault.TableFault.TheVariants as fault
 use Rattle.network_file.specs.declared.fault.NetFault.{NetFault}
@@ -47,7 +47,6 @@ refusal_text names (TooLong file) = too_long_text (input_name names file)
 refusal_text names (Network fault) = network_text fault
 refusal_text names (Table fault) = table_text fault
 refusal_text names (NoPrimary name) = file_text (codes "currents: no-primary ") name
-refusal_text names (CurveNotBuilt curve) = file_text (codes "not built: curve ") (curve_word curve)
 refusal_text names StepsNotBuilt = codes "not built: steps\n"
 refusal_text names TooManyRows = too_many_text what.Rows 4096
 
@@ -78,6 +77,5 @@ refusal_status (TooLong file) = 12
 refusal_status (Network fault) = network_status fault
 refusal_status (Table fault) = table_status fault
 refusal_status (NoPrimary name) = 14
-refusal_status (CurveNotBuilt curve) = 21
 refusal_status StepsNotBuilt = 21
 refusal_status TooManyRows = 15

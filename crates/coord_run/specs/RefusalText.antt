@@ -1,8 +1,6 @@
 -- The words in which refusals are printed (ours).
 use Rattle.std.specs.Prelude.{ℕ, Option, Some, None, List, [], ◌++◌, codes}
 use Rattle.std.specs.Fmt.{decimal}
-use Rattle.coord_model.specs.declared.curve.CurveName.{CurveName}
-use Rattle.coord_model.specs.declared.curve.CurveName.TheVariants.{IecA, IecB, IecC, IeeeMi, IeeeVi, IeeeEi}
 use Rattle.coord_model.specs.declared.kinds.Key.{Key}
 use Rattle.coord_model.specs.declared.kinds.NetKind.{NetKind}
 use Rattle.coord_model.specs.declared.kinds.NetKind.TheVariants.{Missing, WrongKind, OutOfRange, UnknownKey, UnknownCurve, UnknownName, DoubleName, LoopLine, NotAtLine, TwoRelaysAtEnd}
@@ -46,15 +44,6 @@ what_word what.Buses = codes "buses"
 what_word what.PickupSteps = codes "pickup-steps"
 what_word what.Currents = codes "currents"
 what_word what.Rows = codes "rows"
-
--- the name of a curve
-abbrev pub curve_word : CurveName → List ℕ
-curve_word IecA = codes "iec-a"
-curve_word IecB = codes "iec-b"
-curve_word IecC = codes "iec-c"
-curve_word IeeeMi = codes "ieee-mi"
-curve_word IeeeVi = codes "ieee-vi"
-curve_word IeeeEi = codes "ieee-ei"
 
 -- a key, behind a space, if there is one
 abbrev pub key_text : Option Key → List ℕ

@@ -1,5 +1,5 @@
 -- What a case comes to, and the texts of it.
-use Rattle.std.specs.Prelude.{◌≡◌, ◌⊎◌, List, ℕ, ◌<◌, ◌≤◌, None, Some, true, length, codes}
+use Rattle.std.specs.Prelude.{◌≡◌, ◌⊎◌, List, ℕ, ◌<◌, ◌≤◌, true, length, codes}
 use Rattle.std.specs.List.{list_any}
 use Rattle.coord_io.specs.Faults.{Rose}
 use Rattle.coord_io.specs.Files.{Becomes, StaysOrPart}
@@ -11,17 +11,16 @@ use Rattle.coord_run.specs.Outside.{Folder, Prints, Sink, Told}
 use Rattle.coord_run.specs.Refusal.{file_text}
 use Rattle.coord_run.specs.Report.{report_text}
 use Rattle.coord_run.specs.Solve.{sheet_bytes_of}
-use Rattle.coord_run.specs.Steps.{IsBuilt, has_steps, unbuilt_curve}
+use Rattle.coord_run.specs.Steps.{IsBuilt, has_steps}
 use Rattle.coord_run.specs.Words.{SolveNames}
 use Rattle.coord_run.specs.declared.refusal.Refusal.{Refusal}
-use Rattle.coord_run.specs.declared.refusal.Refusal.TheVariants.{Missing, ReadFault, TooLong, Network, Table, NoPrimary, CurveNotBuilt, StepsNotBuilt, TooManyRows}
+use Rattle.coord_run.specs.declared.refusal.Refusal.TheVariants.{Missing, ReadFault, TooLong, Network, Table, NoPrimary, StepsNotBuilt, TooManyRows}
 use Rattle.coord_run.specs.declared.settle.Settlement.{Settlement}
 use Rattle.margin_rows.specs.Case.{Case, rows_in}
 
 -- the refusal says what is not built of the study
 abbrev pub IsUnbuilt : StudyData → Refusal → Type 0
-IsUnbuilt study (CurveNotBuilt curve) = unbuilt_curve study.relays ≡ Some curve
-IsUnbuilt study StepsNotBuilt = (unbuilt_curve study.relays ≡ None) × (list_any has_steps study.relays ≡ true)
+IsUnbuilt study StepsNotBuilt = list_any has_steps study.relays ≡ true
 IsUnbuilt study (Missing file) = ⊥
 IsUnbuilt study (ReadFault file) = ⊥
 IsUnbuilt study (TooLong file) = ⊥
@@ -33,7 +32,6 @@ IsUnbuilt study TooManyRows = ⊥
 -- the refusal says why the case comes to no ending
 abbrev pub IsCaseRefusal : Case → Refusal → Type 0
 IsCaseRefusal case TooManyRows = IsBuilt case.study × (4096 < length (rows_in case))
-IsCaseRefusal case (CurveNotBuilt curve) = IsUnbuilt case.study (CurveNotBuilt curve)
 IsCaseRefusal case StepsNotBuilt = IsUnbuilt case.study StepsNotBuilt
 IsCaseRefusal case (Missing file) = ⊥
 IsCaseRefusal case (ReadFault file) = ⊥

@@ -1,5 +1,5 @@
 -- What `solve` does, from the files that are read to the sheet and the report that are written (ours).
-use Rattle.std.specs.Prelude.{◌≡◌, ◌≢◌, ◌⊎◌, ℕ, ◌<◌, ◌≤◌, Some, None, List, length, codes, slice_get, true}
+use Rattle.std.specs.Prelude.{◌≡◌, ◌≢◌, ◌⊎◌, ℕ, ◌<◌, ◌≤◌, Some, List, length, codes, slice_get, true}
 use Rattle.std.specs.List.{list_any}
 use Rattle.std.specs.Option.{option_map}
 use Rattle.coord_io.specs.Faults.{Rose}
@@ -12,12 +12,12 @@ use Rattle.coord_run.specs.Outcome.{IsTrueOf, OutcomeData, outcome_status, sheet
 use Rattle.coord_run.specs.Outside.{Folder, IsAbsent, IsReadAlone, Prints, Sink, Told}
 use Rattle.coord_run.specs.Refusal.{file_text, input_name, refusal_status, refusal_text}
 use Rattle.coord_run.specs.Report.{report_text}
-use Rattle.coord_run.specs.Steps.{IsBuilt, has_steps, unbuilt_curve}
+use Rattle.coord_run.specs.Steps.{IsBuilt, has_steps}
 use Rattle.coord_run.specs.Words.{SolveNames}
 use Rattle.coord_run.specs.declared.refusal.Input.{Input}
 use Rattle.coord_run.specs.declared.refusal.Input.TheVariants as input
 use Rattle.coord_run.specs.declared.refusal.Refusal.{Refusal}
-use Rattle.coord_run.specs.declared.refusal.Refusal.TheVariants.{Missing, ReadFault, TooLong, Network, Table, NoPrimary, CurveNotBuilt, StepsNotBuilt, TooManyRows}
+use Rattle.coord_run.specs.declared.refusal.Refusal.TheVariants.{Missing, ReadFault, TooLong, Network, Table, NoPrimary, StepsNotBuilt, TooManyRows}
 use Rattle.coord_run.specs.declared.refusal.Stop.{Stop}
 use Rattle.coord_run.specs.declared.refusal.Stop.TheVariants as stop
 use Rattle.fault_table.specs.declared.fault.TableFault.{TableFault}
@@ -44,7 +44,6 @@ HasFileCause before after file name (TooLong other) = (other ≡ file) × Told b
 HasFileCause before after file name (Network fault) = ⊥
 HasFileCause before after file name (Table fault) = ⊥
 HasFileCause before after file name (NoPrimary named) = ⊥
-HasFileCause before after file name (CurveNotBuilt curve) = ⊥
 HasFileCause before after file name StepsNotBuilt = ⊥
 HasFileCause before after file name TooManyRows = ⊥
 
@@ -69,7 +68,6 @@ HasTableCause names before after study (NoPrimary name) =
     (number : ℕ) × Told before after (λ m. HasTableFault m names.currents study (fault.NoPrimary number))
     × (option_map (λ f. f.name) (slice_get study.faults number) ≡ Some name)
 HasTableCause names before after study (Network fault) = ⊥
-HasTableCause names before after study (CurveNotBuilt curve) = ⊥
 HasTableCause names before after study StepsNotBuilt = ⊥
 HasTableCause names before after study TooManyRows = ⊥
 
@@ -93,9 +91,7 @@ HasCause names before after (NoPrimary name) =
     (study : StudyData) × (number : ℕ) × Told before after (λ m. IsNetwork m names.network study)
     × Told before after (λ m. HasTableFault m names.currents study (fault.NoPrimary number))
     × (option_map (λ f. f.name) (slice_get study.faults number) ≡ Some name)
-HasCause names before after (CurveNotBuilt curve) = ReadAs names before after (λ study _. unbuilt_curve study.relays ≡ Some curve)
-HasCause names before after StepsNotBuilt =
-    ReadAs names before after (λ study _. (unbuilt_curve study.relays ≡ None) × (list_any has_steps study.relays ≡ true))
+HasCause names before after StepsNotBuilt = ReadAs names before after (λ study _. list_any has_steps study.relays ≡ true)
 HasCause names before after TooManyRows =
     ReadAs names before after (λ study entries. IsBuilt study × (4096 < length (rows_in (record { study = study; currents = entries }))))
 

@@ -1,5 +1,5 @@
 //! Why a command ends before its work is done.
-use coord_model::{CurveName, Name, NoMemory};
+use coord_model::{Name, NoMemory};
 use fault_table::TableFault;
 use network_file::NetFault;
 
@@ -25,8 +25,6 @@ pub enum Refusal {
     Table(TableFault),
     /// No relay on its line has a current at the fault of this name.
     NoPrimary(Name),
-    /// The curve of a relay is not built yet.
-    CurveNotBuilt(CurveName),
     /// Several pickup or dial steps are not built yet.
     StepsNotBuilt,
     /// There are more than 4,096 rows.

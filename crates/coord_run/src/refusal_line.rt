@@ -3,12 +3,12 @@ ghost use Rattle.std.specs.Prelude.{◌≡◌, ◌++◌, IfOk, OnOk};
 ghost use Rattle.std.specs.Fmt.{decimal};
 ghost use Rattle.coord_run.specs.Names.{names_data};
 ghost use Rattle.coord_run.specs.Refusal.{file_text, network_status, refusal_status, refusal_text, table_status, table_text, too_long_text};
-ghost use Rattle.coord_run.specs.RefusalText.{curve_word, key_text, kind_word, network_text, place_text, record_text, table_word, too_many_text, what_word};
+ghost use Rattle.coord_run.specs.RefusalText.{key_text, kind_word, network_text, place_text, record_text, table_word, too_many_text, what_word};
 
 use crate::inputs::{MOST_BYTES, input_name};
 use crate::refusal::Refusal;
 use crate::words::Names;
-use coord_model::{CurveName, Key, NetKind, NoMemory, TableName, What};
+use coord_model::{Key, NetKind, NoMemory, TableName, What};
 use coord_text::push_number;
 use fault_table::TableFault;
 use network_file::{NetFault, word};
@@ -37,7 +37,6 @@ pub fn refusal_line(
         Refusal::Network(fault) => network_line(alloc, *fault),
         Refusal::Table(fault) => table_line(alloc, *fault),
         Refusal::NoPrimary(name) => file_line(alloc, b"currents: no-primary ", name.bytes()),
-        Refusal::CurveNotBuilt(curve) => file_line(alloc, b"not built: curve ", curve_word(*curve)),
         Refusal::StepsNotBuilt => Ok(Vec::from_slice(alloc, b"not built: steps\n")?),
         Refusal::TooManyRows => too_many_line(alloc, What::Rows, 4_096),
     }
@@ -54,7 +53,7 @@ pub fn refusal_status(refusal: &Refusal) -> u8
         Refusal::Network(fault) => network_status(*fault),
         Refusal::Table(fault) => table_status(*fault),
         Refusal::NoPrimary(_) => 14,
-        Refusal::CurveNotBuilt(_) | Refusal::StepsNotBuilt => 21,
+        Refusal::StepsNotBuilt => 21,
         Refusal::TooManyRows => 15,
     }
 }
@@ -232,18 +231,5 @@ fn what_word(what: What) -> &'static [u8]
         What::PickupSteps => b"pickup-steps",
         What::Currents => b"currents",
         What::Rows => b"rows",
-    }
-}
-
-fn curve_word(curve: CurveName) -> &'static [u8]
-    ensures { result.now ≡ curve_word curve }
-{
-    match curve {
-        CurveName::IecA => b"iec-a",
-        CurveName::IecB => b"iec-b",
-        CurveName::IecC => b"iec-c",
-        CurveName::IeeeMi => b"ieee-mi",
-        CurveName::IeeeVi => b"ieee-vi",
-        CurveName::IeeeEi => b"ieee-ei",
     }
 }

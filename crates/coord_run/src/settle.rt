@@ -1,5 +1,5 @@
 //! From a study and its currents to the texts that are written.
-ghost use Rattle.std.specs.Prelude.{◌≡◌, true, None, IfOk, IfErr};
+ghost use Rattle.std.specs.Prelude.{◌≡◌, true, IfOk, IfErr};
 ghost use Rattle.std.specs.List.{list_any};
 ghost use Rattle.coord_model.specs.Limits.{FitsCurrents, FitsStudy};
 ghost use Rattle.coord_model.specs.StudyData.{entries_of, study_data};
@@ -7,7 +7,7 @@ ghost use Rattle.coord_run.specs.Names.{names_data};
 ghost use Rattle.coord_run.specs.Outcome.{IsTrueOf, outcome_data, outcome_status, sheet_of};
 ghost use Rattle.coord_run.specs.Settlement.{IsCaseRefusal, IsSettlementOf, IsUnbuilt};
 ghost use Rattle.coord_run.specs.Solve.{StopsFor};
-ghost use Rattle.coord_run.specs.Steps.{IsBuilt, has_steps, unbuilt, unbuilt_curve};
+ghost use Rattle.coord_run.specs.Steps.{IsBuilt, has_steps};
 ghost use Rattle.margin_rows.specs.Case.{case_of};
 ghost use Rattle.settings_sheet.specs.SheetText.{IsSheet, sheet_data};
 
@@ -17,7 +17,7 @@ use crate::refusal::{Refusal, Stop};
 use crate::refusal_line::file_line;
 use crate::report::report_bytes;
 use crate::words::Names;
-use coord_model::{Currents, CurveName, Ending, Relay, Study};
+use coord_model::{Currents, Ending, Relay, Study};
 use margin_rows::{BuildFault, Instance, build};
 use settings_sheet::{Sheet, sheet_bytes};
 use std::alloc::Global;
@@ -117,35 +117,10 @@ fn require_built(study: &Study) -> Result<(), Stop>
     ensures built { IfOk result (λ _. IsBuilt (study_data study.now)) }
     ensures stopped { IfErr result (λ stop. StopsFor stop (IsUnbuilt (study_data study.now))) }
 {
-    if let Some(curve) = unbuilt_curve(study.relays.as_slice()) {
-        return Err(Stop::Refused(Refusal::CurveNotBuilt(curve)));
-    }
     if have_steps(study.relays.as_slice()) {
         return Err(Stop::Refused(Refusal::StepsNotBuilt));
     }
     Ok(())
-}
-
-/// The curve of the first relay whose curve is not built.
-fn unbuilt_curve(relays: &[Relay]) -> Option<CurveName>
-    ensures { result ≡ unbuilt_curve relays.now }
-{
-    for relay in relays {
-        if let Some(curve) = unbuilt(relay.curve) {
-            return Some(curve);
-        }
-    }
-    None
-}
-
-/// The curve, unless it is built.
-fn unbuilt(curve: CurveName) -> Option<CurveName>
-    ensures { result ≡ unbuilt curve }
-{
-    match curve {
-        CurveName::IecB => None,
-        _ => Some(curve),
-    }
 }
 
 /// Whether a relay has several pickup steps or several dial steps.

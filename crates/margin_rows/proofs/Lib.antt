@@ -11,10 +11,12 @@ pub mod Lowered
 pub mod Multiples
 pub mod Placed
 pub mod Places
+pub mod Raising
 pub mod Ran
 pub mod Reached
 pub mod Rising
 pub mod Spanned
 pub mod Timed
 pub mod WaitingRows
+pub mod Widths
 pub mod Written

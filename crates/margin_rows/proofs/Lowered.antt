@@ -13,7 +13,8 @@ use Rattle.margin_rows.specs.FirstBox.{IsFirstLow, IsLowest}
 use Rattle.margin_rows.proofs.Places.{some_and}
 use Rattle.margin_rows.proofs.Timed.{at_place}
 
-zeros_at : (n i : ℕ) → let zeros : List ℕ = replicate n 0 in get_or zeros i 0 ≡ 0
+-- a list of zeros
+pub zeros_at : (n i : ℕ) → let zeros : List ℕ = replicate n 0 in get_or zeros i 0 ≡ 0
 zeros_at n i = elim (cases_lt i n) [ inl below ↦ get_or-replicate {A = ℕ} n i 0 0 below | inr past ↦ get_or_past {X = ℕ} (replicate n 0) i 0 (omega (arith, past, length-replicate {A = ℕ} n 0)) ]
 
 -- the lowest step of a relay, at its place

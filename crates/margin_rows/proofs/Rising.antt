@@ -4,7 +4,7 @@ use Rattle.std.proofs.Common.{◌≡◌, ℕ, ◌*◌, ◌<◌, ◌≤◌, Bool,
 use Rattle.std.proofs.Math.Nat.{mul-le-mul_left, mul-le-mul_right, mul-lt-mul_of_pos_left}
 use Rattle.std.proofs.lemmas.Bool.{leb-true, leb-false}
 use Rattle.coord_model.specs.Allowed.{Senses}
-use Rattle.coord_model.specs.Enclosure.{IsAtMost, IsEnclosable, IsNotAbove}
+use Rattle.coord_model.specs.Enclosure.{IsAtMost, IsNotAbove}
 use Rattle.coord_model.specs.Limits.{FitsRelay}
 use Rattle.coord_model.specs.Rows.{amps_at}
 use Rattle.coord_model.specs.Time.{Multiple, sensed_multiple, capped}

@@ -9,7 +9,7 @@ use Rattle.coord_model.specs.Limits.{FitsRelay}
 use Rattle.margin_rows.specs.Box.{Box, IsIn, AreIn, LiesIn, FitsBox, IsFirstBox, IsDialStep, with_pickup, with_dial}
 use Rattle.margin_rows.specs.Case.{Case, FitsCase}
 use Rattle.margin_rows.specs.FirstBox.{IsFirstStep}
-use Rattle.margin_rows.specs.Halves.{HasNext, AreHalves, ShareOut, up_to, above}
+use Rattle.margin_rows.specs.Halves.{HasNext, CanSplit, AreHalves, ShareOut, up_to, above}
 use Rattle.margin_rows.specs.declared.span.Steps.{Steps}
 use Rattle.margin_rows.proofs.Placed.{of_some}
 use Rattle.margin_rows.proofs.Places.{some_and}
@@ -87,10 +87,6 @@ up_to_within span step has s inside = record { from = inside.from; before = omeg
 above_within : (span : Steps) (step : ℕ) → HasNext span step → IsWithin (above span step) span
 above_within span step has s inside = record { from = omega (arith, inside.from, has.from); before = inside.before }
 
--- the relay's span has the step and the next one
-abbrev pub CanCut : Box → ℕ → ℕ → Type 0
-CanCut box relay step = IsSomeAnd (slice_get box.pickup relay) (λ span. HasNext span step)
-
 module _ (box : Box) (relay step : ℕ) (span : Steps) (found : slice_get box.pickup relay ≡ Some span) (has : HasNext span step) where
   share_out : ShareOut box (with_pickup box relay (up_to span step)) (with_pickup box relay (above span step))
   share_out = record {
@@ -114,14 +110,14 @@ module _ (box : Box) (relay step : ℕ) (span : Steps) (found : slice_get box.pi
   halves lower upper are = (rw found at are.low, rw found at are.high)
 
 -- the halves share out the settings of the box
-pub halves_share_out : (box lower upper : Box) (relay step : ℕ) → CanCut box relay step → AreHalves box relay step lower upper → ShareOut box lower upper
+pub halves_share_out : (box lower upper : Box) (relay step : ℕ) → CanSplit box relay step → AreHalves box relay step lower upper → ShareOut box lower upper
 halves_share_out box lower upper relay step can are =
     let found = some_and (slice_get box.pickup relay) (λ span. HasNext span step) can in
     let are = halves box relay step found.0 found.1 found.2 lower upper are in
     rw (are.0, are.1) (share_out box relay step found.0 found.1 found.2)
 
 -- the halves of a box that fits fit
-pub halves_fit : (box lower upper : Box) (relay step : ℕ) → CanCut box relay step → AreHalves box relay step lower upper → (case : Case) → FitsBox case box → FitsBox case lower × FitsBox case upper
+pub halves_fit : (box lower upper : Box) (relay step : ℕ) → CanSplit box relay step → AreHalves box relay step lower upper → (case : Case) → FitsBox case box → FitsBox case lower × FitsBox case upper
 halves_fit box lower upper relay step can are case fits =
     let found = some_and (slice_get box.pickup relay) (λ span. HasNext span step) can in
     let are = halves box relay step found.0 found.1 found.2 lower upper are in

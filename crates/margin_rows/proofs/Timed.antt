@@ -1,10 +1,9 @@
 -- The times of a case at settings of the first box.
 use Rattle.std.specs.Prelude.{◌&&◌, ◌==◌, nat_lt, slice_get}
-use Rattle.std.proofs.Common.{◌≡◌, ℕ, ◌^◌, ◌<◌, ◌≤◌, Bool, true, false, cond, List, [], ◌∷◌, Some, Option, arith, refl, subst}
+use Rattle.std.proofs.Common.{◌≡◌, ℕ, ◌^◌, ◌<◌, ◌≤◌, Bool, true, false, cond, List, [], ◌∷◌, Some, arith, refl, subst}
 use Rattle.std.proofs.lemmas.Option.{slice_get_within, get_or_from_slice_get}
 use Rattle.std.proofs.lemmas.List.Elements.{All-head, All-tail}
 use Rattle.std.specs.List.{All}
-use Rattle.std.specs.Option.{option_map_or}
 use Rattle.coord_model.specs.Allowed.{Senses}
 use Rattle.coord_model.specs.Enclosure.{IsEnclosable}
 use Rattle.coord_model.specs.Form.{form_of}

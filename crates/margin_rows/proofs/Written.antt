@@ -1,8 +1,8 @@
 -- A list with another value at one place or one more at its end, and what is read at a place.
 use Rattle.std.specs.Prelude.{slice_get, IfSome, IsSomeAnd}
-use Rattle.std.proofs.Common.{◌≡◌, ℕ, suc, zero, List, [], ◌∷◌, ◌++◌, length, set, get_or, Some, sym, refl, ap, ◌∙◌, subst}
+use Rattle.std.proofs.Common.{◌≡◌, ◌<◌, ℕ, suc, zero, List, [], ◌∷◌, ◌++◌, length, set, get_or, Some, arith, sym, refl, ap, ◌∙◌, subst}
 use Rattle.std.proofs.lemmas.List.{set-set, set-get_or}
-use Rattle.std.proofs.lemmas.Option.{get_or_from_slice_get}
+use Rattle.std.proofs.lemmas.Option.{get_or_from_slice_get, slice_get-get_or}
 use Rattle.margin_rows.proofs.Places.{some_and}
 
 -- a fact of each place, and one place more
@@ -36,3 +36,13 @@ read_there {X} xs ys i j x P same is read fact =
     let found = some_and (slice_get xs i) P fact in
     let here : found.0 ≡ x = sym (read ∙ ap (λ (k : ℕ). get_or ys k x) is ∙ ap (λ (zs : List X). get_or zs i x) same ∙ get_or_from_slice_get xs i found.0 x found.1) in
     (found.1 ∙ ap Some here, subst P here found.2)
+
+pub found_at : {X : Type 0} (xs ys : List X) (i j : ℕ) (x : X) → ys ≡ xs → j ≡ i → i < length xs → x ≡ get_or ys j x → slice_get xs i ≡ Some x
+found_at {X} xs ys i j x same is below read =
+    slice_get-get_or xs i x below ∙ ap Some (ap (λ (zs : List X). get_or zs i x) (sym same) ∙ ap (λ (k : ℕ). get_or ys k x) (sym is) ∙ sym read)
+
+-- there is a value at a place within the list
+pub in_list : {X : Type 0} (xs : List X) (i : ℕ) → i < length xs → (x : X) × (slice_get xs i ≡ Some x)
+in_list [] i below = absurd (omega (arith, below))
+in_list (x ∷ xs) zero below = (x, refl)
+in_list (x ∷ xs) (suc i) below = in_list xs i (omega (arith, below))

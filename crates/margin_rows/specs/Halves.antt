@@ -9,6 +9,10 @@ pub record HasNext (span : Steps) (step : ℕ) : Type 0 where
   pub from : span.low ≤ step
   pub next : step + 1 < span.past
 
+-- the box can be split at a pickup step of a relay: its span has the step and the next one
+abbrev pub CanSplit : Box → ℕ → ℕ → Type 0
+CanSplit box relay step = IsSomeAnd (slice_get box.pickup relay) (λ span. HasNext span step)
+
 -- the span up to a step, and the span above it
 abbrev pub up_to : Steps → ℕ → Steps
 up_to span step = record { low = span.low; past = step + 1 }

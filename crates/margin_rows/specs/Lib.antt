@@ -2,10 +2,13 @@ pub mod Box
 pub mod Case
 pub mod Dial
 pub mod FirstBox
+pub mod Gap
 pub mod Given
 pub mod Halves
+pub mod Least
 pub mod Margin
 pub mod Price
+pub mod Raised
 pub mod Reach
 pub mod Refusal
 pub mod Tables

@@ -9,8 +9,10 @@
 mod dial;
 mod enclose;
 mod fault;
+mod gap;
 mod given;
 mod instance;
+mod least;
 mod lowest;
 mod margin;
 mod price;
@@ -24,7 +26,9 @@ mod terms;
 
 pub use dial::dial_at;
 pub use fault::BuildFault;
+pub use gap::least_gap;
 pub use instance::{Instance, build};
+pub use least::strict_least;
 pub use lowest::lowest_choice;
 pub use margin::{loose_row, strict_ok, strict_row};
 pub use price::{cost, lower_cost};

@@ -6,6 +6,7 @@ ghost use Rattle.margin_rows.specs.Case.{rows_in, AtRow, FitsCase};
 ghost use Rattle.margin_rows.specs.FirstBox.{IsInFirstBox};
 ghost use Rattle.margin_rows.specs.Margin.{interval_ps, least_ps, greatest_ps, margin, loose_margin, strict_margin, MeetsLoosely, MeetsStrictly};
 
+use crate::dial::dial_at;
 use crate::instance::Instance;
 use coord_model::Choice;
 
@@ -103,13 +104,11 @@ pub fn dial(inst: &Instance, choice: &Choice, relay: u16) -> u64
     ensures exact { result ≡ dial_of inst.now.study (choice_data choice.now) relay }
     ensures small { result ≤ 15000 }
 {
-    let place = usize::from(relay);
-    let relay = &inst.study().relays[place];
-    u64::from(relay.dial_first) + u64::from(choice.dial[place]) * u64::from(relay.dial_step)
+    dial_at(inst, relay, choice.dial[usize::from(relay)])
 }
 
 /// The coordination interval, in picoseconds.
-fn interval_ps(inst: &Instance) -> u64
+pub fn interval_ps(inst: &Instance) -> u64
     ensures exact { result ≡ interval_ps inst.now.study }
     ensures small { result < 2 ^ 54 }
     ensures fits { FitsCase inst.now }

@@ -11,7 +11,7 @@ use crate::margin::dial;
 use coord_model::Choice;
 
 /// The picoseconds of a microsecond.
-const PICOSECONDS: u128 = 1_000_000;
+pub const PICOSECONDS: u128 = 1_000_000;
 
 /// The cost of a choice: the weighted sum of its primary operating times at their upper ends, rounded up.
 pub fn cost(inst: &Instance, choice: &Choice) -> u64

@@ -4,7 +4,7 @@ ghost use Rattle.coord_model.specs.Choice.{choice_data};
 ghost use Rattle.margin_rows.specs.Box.{IsShownAs, IsIn, AreIn, IsDialStep, LiesIn, FitsBox, IsFirstBox, with_pickup, with_dial};
 ghost use Rattle.margin_rows.specs.Case.{Case, FitsCase};
 ghost use Rattle.margin_rows.specs.FirstBox.{IsFirstStep};
-ghost use Rattle.margin_rows.specs.Halves.{HasNext, AreHalves, ShareOut};
+ghost use Rattle.margin_rows.specs.Halves.{CanSplit, AreHalves, ShareOut};
 
 use crate::instance::Instance;
 use crate::span::{Span, Steps, halves, shown};
@@ -90,12 +90,21 @@ impl Ranges {
         })
     }
 
+    /// Whether the box can be split at a pickup step of a relay: its span has the step and the next one.
+    pub fn can_split(&self, relay: u16, at: u16) -> bool
+        requires { relay < length self.now.pickup }
+        ensures { IsTrue result ↔ CanSplit self.now relay at }
+    {
+        let span = self.pickup(relay);
+        span.lo <= at && at < span.hi
+    }
+
     /// The two halves of the box, cut between a pickup step of a relay and the next one.
     ///
     /// The first has the relay's pickup steps up to `at`, the second those above it.
     pub fn split(&self, relay: u16, at: u16) -> Result<(Ranges, Ranges), NoMemory>
         requires relay { relay < length self.now.pickup }
-        requires at { IsSomeAnd (slice_get self.now.pickup relay) (λ span. HasNext span at) }
+        requires at { CanSplit self.now relay at }
 
         ensures exact { IfOk result (λ halves. AreHalves self.now relay at halves.0 halves.1) }
         ensures shared { IfOk result (λ halves. ShareOut self.now halves.0 halves.1) }

@@ -164,13 +164,14 @@ fn time(alloc: Global, curve: CurveName, amps: u32) -> Result<Option<(u64, u64)>
     Ok(first_time(&inst))
 }
 
-/// The ends of the time of relay 0 at the first term, with its lowest pickup.
+/// The ends of the time of the first term's relay, with its lowest pickup.
 fn first_time(inst: &Instance) -> Option<(u64, u64)> {
-    let term = *inst.terms().first()?;
-    let (low, _high) = first_span(inst)?;
-    if term.relay != 0 {
+    let terms = inst.terms();
+    if terms.is_empty() {
         return None;
     }
+    let relay = terms[0].relay;
+    let (low, _high) = inst.first_pickups(relay)?;
     Some(inst.term_time(0, low))
 }
 

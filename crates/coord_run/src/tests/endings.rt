@@ -102,6 +102,53 @@ relay R2 plug 1.00 dial 0.140
     Ok(())
 }
 
+// At 5 times pickup extremely inverse of IEEE takes 28.2/24 + 0.1217 s, which the dial multiplies as a whole: 2.5934 s
+// at 2.000. That is 2.5184 s more than the very inverse relay of IEC at 10 times pickup, which takes 13.5/9 s times 0.050.
+#[test]
+fn relays_of_both_standards_end_by_their_curves(rt: HostRuntime) -> Result<(), test::Fail> {
+    let mixed = changed(
+        &rt,
+        &[
+            ("iec-b", "ieee-ei"),
+            ("dial_first = 250", "dial_first = 2000"),
+        ],
+    )?;
+    ends(
+        &rt,
+        &mixed,
+        "fault,relay,amps\nF1,R2,1000\nF1,R1,500\nF2,R1,500\n",
+        0,
+        "closed cost 2668400 bound 2668400 boxes 1\n",
+        "coord-sheet 1
+ending closed
+cost 2668400
+bound 2668400
+relay R1 plug 1.00 dial 2.000
+relay R2 plug 1.00 dial 0.050
+end
+",
+    )?;
+    // inverse of IEC at 10 times pickup: 0.14/(10^0.02 - 1) is 2.970598624.. s, times 0.250 and 0.050 and a second time
+    // 0.250 for the other fault. Its ends are at most 100 ns apart, so that the sum lies between two microseconds.
+    let inverse = changed(&rt, &[("iec-b", "iec-a"), ("iec-b", "iec-a")])?;
+    ends(
+        &rt,
+        &inverse,
+        "fault,relay,amps\nF1,R2,1000\nF1,R1,1000\nF2,R1,1000\n",
+        0,
+        "closed cost 891180 bound 891179 boxes 1\n",
+        "coord-sheet 1
+ending closed
+cost 891180
+bound 891179
+relay R1 plug 1.00 dial 0.250
+relay R2 plug 1.00 dial 0.050
+end
+",
+    )?;
+    Ok(())
+}
+
 #[test]
 fn one_relay_ends_by_its_multiple(rt: HostRuntime) -> Result<(), test::Fail> {
     // sensed from 1.1 times pickup on, where the time is 135 s times the dial

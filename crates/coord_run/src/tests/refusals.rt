@@ -68,7 +68,7 @@ fn a_network_is_refused_for_its_first_fault(rt: HostRuntime) -> Result<(), test:
     };
     refuses(&rt, cut, CURRENTS, 13, "network: not-toml\n")?;
 
-    let cases: [(&[(&str, &str)], u8, &str); 6] = [
+    let cases: [(&[(&str, &str)], u8, &str); 5] = [
         (
             &[("\"R2\"", "\"R1\"")],
             13,
@@ -79,7 +79,6 @@ fn a_network_is_refused_for_its_first_fault(rt: HostRuntime) -> Result<(), test:
             13,
             "network: unknown-key relay 1\n",
         ),
-        (&[("iec-b", "iec-a")], 21, "not built: curve iec-a\n"),
         (
             &[("dial_count = 1", "dial_count = 20")],
             21,

@@ -1,0 +1,71 @@
+-- Raising dials, row by row, to the least that strictly meet them.
+use Rattle.std.specs.Prelude.{◌≡◌, ℕ, ◌+◌, ◌*◌, ◌^◌, ◌<◌, ◌≤◌, List, length, slice_index, set, sum_by, All}
+use Rattle.coord_model.specs.Choice.{Settings}
+use Rattle.coord_model.specs.StudyData.{StudyData}
+use Rattle.coord_model.specs.declared.study.Row.{Row}
+use Rattle.margin_rows.specs.Box.{IsDialStep}
+use Rattle.margin_rows.specs.Case.{Case, rows_in}
+use Rattle.margin_rows.specs.Dial.{dial_at_step}
+use Rattle.margin_rows.specs.Least.{IsStrict}
+use Rattle.margin_rows.specs.Margin.{interval_ps, MeetsStrictly}
+use Rattle.margin_rows.specs.Times.{time_at}
+use Rattle.margin_rows.specs.declared.least.Rise.{Rise}
+use Rattle.margin_rows.specs.declared.least.Rise.TheVariants.{Kept, Rose, Beyond}
+use Rattle.margin_rows.specs.declared.least.Wait.{Wait}
+
+-- the wait is that of the row with these pickups
+pub record IsWaitOf (case : Case) (pickups : List ℕ) (row : Row) (wait : Wait) : Type 0 where
+  pub backup : wait.backup ≡ row.backup
+  pub primary : wait.primary ≡ row.primary
+  pub backup_time : wait.backup_time ≡ (time_at case row.fault row.backup (slice_index pickups row.backup)).lower
+  pub primary_time : wait.primary_time ≡ (time_at case row.fault row.primary (slice_index pickups row.primary)).upper
+
+-- its relays are of the study and its times are above 0 and below 2^40
+pub record FitsWait (case : Case) (wait : Wait) : Type 0 where
+  pub backup : wait.backup < length case.study.relays
+  pub primary : wait.primary < length case.study.relays
+  pub some : 0 < wait.backup_time
+  pub backup_small : wait.backup_time < 2 ^ 40
+  pub primary_small : wait.primary_time < 2 ^ 40
+
+-- the time at which the backup may operate at the earliest, in picoseconds
+abbrev pub due : Case → List ℕ → Wait → ℕ
+due case dials wait = dial_at_step case.study wait.primary (slice_index dials wait.primary) * wait.primary_time + interval_ps case.study
+
+-- the backup waits long enough at this dial step
+abbrev pub Suffices : Case → List ℕ → Wait → ℕ → Type 0
+Suffices case dials wait step = due case dials wait ≤ dial_at_step case.study wait.backup step * wait.backup_time
+
+-- there is one dial step for each relay, below its count
+pub record AreDialSteps (case : Case) (dials : List ℕ) : Type 0 where
+  pub count : length dials ≡ length case.study.relays
+  pub each : (i : ℕ) → i < length case.study.relays → IsDialStep case i (slice_index dials i)
+
+-- the dials are those before, but that of the backup rose to the least step that suffices
+pub record IsRaised (case : Case) (wait : Wait) (old new : List ℕ) : Type 0 where
+  pub step : ℕ
+  pub on_step : IsDialStep case wait.backup step
+  pub above : slice_index old wait.backup < step
+  pub least : (other : ℕ) → IsDialStep case wait.backup other → Suffices case old wait other → step ≤ other
+  pub written : new ≡ set old wait.backup step
+
+-- what raising the backup's dial did: nothing, since it suffices; it rose; or no step suffices
+abbrev pub IsRise : Case → Wait → List ℕ → List ℕ → Rise → Type 0
+IsRise case wait old new Kept = (new ≡ old) × Suffices case old wait (slice_index old wait.backup)
+IsRise case wait old new Rose = IsRaised case wait old new
+IsRise case wait old new Beyond = (step : ℕ) → IsDialStep case wait.backup step → ¬ (Suffices case old wait step)
+
+-- the dials lie on the steps, and no strict settings have a lower one
+pub record AreLow (case : Case) (pickups dials : List ℕ) : Type 0 where
+  pub on_steps : AreDialSteps case dials
+  pub lowest : (other : Settings) → IsStrict case pickups other → (i : ℕ) → slice_index dials i ≤ slice_index other.dial i
+
+-- the sum of the dial steps, which rises until every row is met
+abbrev pub step_sum : List ℕ → ℕ
+step_sum dials = sum_by (λ step. step) dials
+
+-- what a round over the rows did: the dials meet all of them; a dial rose; or no settings are strict
+abbrev pub IsRound : Case → List ℕ → List ℕ → List ℕ → Rise → Type 0
+IsRound case pickups old new Kept = AreLow case pickups new × All (MeetsStrictly case (record { pickup = pickups; dial = new })) (rows_in case)
+IsRound case pickups old new Rose = AreLow case pickups new × (step_sum old < step_sum new)
+IsRound case pickups old new Beyond = (other : Settings) → ¬ (IsStrict case pickups other)

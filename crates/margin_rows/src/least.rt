@@ -1,0 +1,178 @@
+//! The least dials that strictly meet every row with given pickups.
+//!
+//! They are found from below: all dials begin at the first, and the dial of each backup that does not wait long
+//! enough rises to the least at which it does, until no row asks for more.
+ghost use Rattle.std.specs.Prelude.{◌≡◌, ℕ, ◌*◌, ◌^◌, ◌<◌, ◌≤◌, length, All, IfOk, IfSome, IsSomeAnd, IsTrue, IsFalse};
+ghost use Rattle.std.specs.Option.{option_map};
+ghost use Rattle.coord_model.specs.Choice.{Settings, choice_data};
+ghost use Rattle.coord_model.specs.Limits.{FitsRelay};
+ghost use Rattle.coord_model.specs.Time.{dial_at};
+ghost use Rattle.margin_rows.specs.Box.{IsDialStep};
+ghost use Rattle.margin_rows.specs.Case.{rows_in, AtRow, FitsCase};
+ghost use Rattle.margin_rows.specs.Dial.{dial_at_step};
+ghost use Rattle.margin_rows.specs.FirstBox.{IsInFirstBox};
+ghost use Rattle.margin_rows.specs.Least.{AreFirstPickups, IsStrict, IsStrictLeastOf};
+ghost use Rattle.margin_rows.specs.Margin.{MeetsStrictly};
+ghost use Rattle.margin_rows.specs.Raised.{IsWaitOf, FitsWait, due, AreDialSteps, IsRise, AreLow, IsRound};
+
+use crate::dial::dial_at;
+use crate::instance::Instance;
+use crate::margin::interval_ps;
+use coord_model::{Choice, NoMemory, Relay};
+use std::alloc::Global;
+
+/// The choice of the least dials that strictly meet every row with these pickups. `None`: no dials do.
+pub fn strict_least(
+    alloc: Global,
+    inst: &Instance,
+    pickups: &[u16],
+) -> Result<Option<Choice>, NoMemory>
+    requires { AreFirstPickups inst.now pickups.now }
+
+    ensures exact { IfOk result (λ found. IsStrictLeastOf inst.now pickups.now (option_map choice_data found)) }
+    ensures first_box { IfOk result (λ found. IfSome found (λ choice. IsInFirstBox inst.now (choice_data choice))) }
+{
+    let mut dial = vec![in alloc; 0; inst.study().relays.len()]?;
+    if !raise_all(inst, pickups, dial.as_mut_slice()) {
+        return Ok(None);
+    }
+    let pickup = pickups.to_vec(alloc)?;
+    Ok(Some(Choice { pickup, dial }))
+}
+
+/// What raising dials did.
+#[derive(Clone, Copy)]
+enum Rise {
+    /// Nothing: each backup waits long enough.
+    Kept,
+    /// A dial rose.
+    Rose,
+    /// A backup would have to go beyond its last dial.
+    Beyond,
+}
+
+/// Raises the dials until every row is strictly met. `false`: no dials meet every row.
+fn raise_all(inst: &Instance, pickups: &[u16], dials: &mut [u16]) -> bool
+    requires pickups { AreFirstPickups inst.now pickups.now }
+    requires low { AreLow inst.now pickups.now dials.old }
+
+    ensures low { IsTrue result → AreLow inst.now pickups.now dials.new }
+    ensures met { IsTrue result → All (MeetsStrictly inst.now (record { pickup = pickups.now; dial = dials.new })) (rows_in inst.now) }
+    ensures none { IsFalse result → (other : Settings) → ¬ (IsStrict inst.now pickups.now other) }
+{
+    loop {
+        match raise_round(inst, pickups, dials) {
+            Rise::Kept => return true,
+            Rise::Rose => {}
+            Rise::Beyond => return false,
+        }
+    }
+}
+
+/// Raises the dial of the backup of each row once.
+fn raise_round(inst: &Instance, pickups: &[u16], dials: &mut [u16]) -> Rise
+    requires pickups { AreFirstPickups inst.now pickups.now }
+    requires low { AreLow inst.now pickups.now dials.old }
+
+    ensures { IsRound inst.now pickups.now dials.old dials.new result }
+{
+    let mut rise = Rise::Kept;
+    for row in 0..inst.rows().len() as u16 {
+        match raise(inst, dials, wait_at(inst, pickups, row)) {
+            Rise::Kept => {}
+            Rise::Rose => rise = Rise::Rose,
+            Rise::Beyond => return Rise::Beyond,
+        }
+    }
+    rise
+}
+
+/// What a row asks: that its backup at its least time waits for its primary at its greatest time.
+///
+/// The times are in nanoseconds at dial 1, with given pickups.
+#[derive(Clone, Copy)]
+struct Wait {
+    backup: u16,
+    primary: u16,
+    backup_time: u64,
+    primary_time: u64,
+}
+
+/// What a row asks with these pickups.
+fn wait_at(inst: &Instance, pickups: &[u16], row: u16) -> Wait
+    requires pickups { AreFirstPickups inst.now pickups.now }
+    requires row { row < length (rows_in inst.now) }
+
+    ensures exact { AtRow inst.now row (λ r. IsWaitOf inst.now pickups.now r result) }
+    ensures fits { FitsWait inst.now result }
+{
+    let at = inst.rows()[usize::from(row)];
+    let backup_step = pickups[usize::from(at.backup)];
+    let primary_step = pickups[usize::from(at.primary)];
+    let (backup, primary) = inst.row_times(row, backup_step, primary_step);
+    Wait {
+        backup: at.backup,
+        primary: at.primary,
+        backup_time: backup.0,
+        primary_time: primary.1,
+    }
+}
+
+/// Raises the dial of a backup that does not wait long enough to the least at which it does.
+fn raise(inst: &Instance, dials: &mut [u16], wait: Wait) -> Rise
+    requires fits { FitsWait inst.now wait }
+    requires steps { AreDialSteps inst.now dials.old }
+
+    ensures { IsRise inst.now wait dials.old dials.new result }
+{
+    let due = due(inst, dials, wait);
+    let place = usize::from(wait.backup);
+    if due <= dial_at(inst, wait.backup, dials[place]) * wait.backup_time {
+        return Rise::Kept;
+    }
+    let Some(step) = sufficient_step(inst, wait, due) else {
+        return Rise::Beyond;
+    };
+    dials[place] = step;
+    Rise::Rose
+}
+
+/// The time at which the backup may operate at the earliest, in picoseconds.
+fn due(inst: &Instance, dials: &[u16], wait: Wait) -> u64
+    requires fits { FitsWait inst.now wait }
+    requires steps { AreDialSteps inst.now dials.now }
+
+    ensures exact { result ≡ due inst.now dials.now wait }
+    ensures small { result < 2 ^ 55 }
+{
+    let dial = dial_at(inst, wait.primary, dials[usize::from(wait.primary)]);
+    dial * wait.primary_time + interval_ps(inst)
+}
+
+/// The least dial step at which the backup does not operate before a time in picoseconds. `None`: there is none.
+fn sufficient_step(inst: &Instance, wait: Wait, due: u64) -> Option<u16>
+    requires { FitsWait inst.now wait }
+
+    ensures suffices { IfSome result (λ step. IsDialStep inst.now wait.backup step × (due ≤ dial_at_step inst.now.study wait.backup step * wait.backup_time)) }
+    ensures least { (step : ℕ) → IsDialStep inst.now wait.backup step → due ≤ dial_at_step inst.now.study wait.backup step * wait.backup_time → IsSomeAnd result (λ found. found ≤ step) }
+{
+    let relay = &inst.study().relays[usize::from(wait.backup)];
+    step_reaching(relay, due.div_ceil(wait.backup_time))
+}
+
+/// The least dial step of a relay with at least this dial, in thousandths. `None`: there is none.
+fn step_reaching(relay: &Relay, dial: u64) -> Option<u16>
+    requires some { 0 < relay.now.dial_step }
+    requires few { relay.now.dial_count ≤ 4000 }
+
+    ensures reaches { IfSome result (λ step. (step < relay.now.dial_count) × (dial ≤ dial_at relay.now step)) }
+    ensures least { (step : ℕ) → step < relay.now.dial_count → dial ≤ dial_at relay.now step → IsSomeAnd result (λ found. found ≤ step) }
+{
+    let rise = dial.saturating_sub(u64::from(relay.dial_first));
+    let step = rise.div_ceil(u64::from(relay.dial_step));
+    if step < u64::from(relay.dial_count) {
+        Some(step as u16)
+    } else {
+        None
+    }
+}
