@@ -1,0 +1,15 @@
+pub mod Spans
+pub mod Within
+pub mod Order
+pub mod Laws
+pub mod Places
+pub mod Meets
+pub mod Shown
+pub mod Cuts
+pub mod Narrowed
+pub mod Looked
+pub mod Visited
+pub mod Rounded
+pub mod Tight
+pub mod Ended
+pub mod Begun

@@ -1,0 +1,307 @@
+-- What the steps of a row's two relays say of the choices of a box.
+use Rattle.std.specs.Prelude.{slice_get, slice_index}
+use Rattle.std.specs.List.{Contains}
+use Rattle.std.specs.Option.{option_map_or}
+use Rattle.std.proofs.Common.{◌≡◌, ◌≢◌, ℕ, ◌+◌, ◌-◌, ◌*◌, ◌<◌, ◌≤◌, ◌↔◌, List, length, map, get_or, set, Option, Some, None, arith, refl, sym, ap, ◌∙◌, subst, inl, inr}
+use Rattle.std.proofs.Math.Nat.{mul-le-mul_left}
+use Rattle.std.proofs.lemmas.Bool.{cases_eq}
+use Rattle.std.proofs.lemmas.List.{length-map, length-set, get_or-set_same, get_or-set_other, get_or-map}
+use Rattle.std.proofs.lemmas.Nat.{mul-le}
+use Rattle.coord_model.specs.Choice.{Settings}
+use Rattle.coord_model.specs.StudyData.{StudyData}
+use Rattle.coord_model.specs.Time.{dial_at}
+use Rattle.coord_model.specs.declared.study.Relay.{Relay}
+use Rattle.coord_model.specs.declared.study.Row.{Row}
+use Rattle.margin_rows.specs.Box.{Box, IsIn, LiesIn, FitsBox, IsDialStep}
+use Rattle.margin_rows.specs.Case.{Case, rows_in, FitsCase}
+use Rattle.margin_rows.specs.Dial.{dial_at_step}
+use Rattle.margin_rows.specs.FirstBox.{IsFirstStep}
+use Rattle.margin_rows.specs.Margin.{MeetsLoosely, interval_ps}
+use Rattle.margin_rows.specs.Times.{time_at}
+use Rattle.margin_rows.specs.declared.span.Steps.{Steps}
+use Rattle.box_range.specs.Drops.{CanMeet}
+use Rattle.box_range.specs.Kinds.{spans_of, step_of, span_at, HasSteps}
+use Rattle.box_range.specs.Meeting.{IsFilled, IsMeetable, HasRelays, AreFirst, MeetsWith, relay_of, best_steps, with_step}
+use Rattle.box_range.specs.declared.kind.Kind.{Kind}
+use Rattle.box_range.specs.declared.kind.Kind.TheVariants.{Pickup, Dial}
+use Rattle.box_range.specs.declared.row.Part.{Part}
+use Rattle.box_range.specs.declared.row.Part.TheVariants.{Backup, Primary}
+use Rattle.box_range.specs.declared.row.RowSteps.{RowSteps}
+use Rattle.box_range.proofs.Laws.{backup_rises, primary_rises}
+use Rattle.box_range.proofs.Places.{relays_apart, relay_counts}
+use Rattle.box_range.proofs.Spans.{no_span, some_each, has_steps, lies_at, lies}
+
+-- the steps of the row's relays lie in the spans of the box
+pub record AreInBox (box : Box) (row : Row) (steps : RowSteps) : Type 0 where
+  pub backup_pickup : IsIn (span_at Pickup box row.backup) steps.backup_pickup
+  pub backup_dial : IsIn (span_at Dial box row.backup) steps.backup_dial
+  pub primary_pickup : IsIn (span_at Pickup box row.primary) steps.primary_pickup
+  pub primary_dial : IsIn (span_at Dial box row.primary) steps.primary_dial
+
+-- the second steps are at least as good for the row: a slower backup, a quicker primary
+pub record AreBetter (worse better : RowSteps) : Type 0 where
+  pub backup_pickup : worse.backup_pickup ≤ better.backup_pickup
+  pub backup_dial : worse.backup_dial ≤ better.backup_dial
+  pub primary_pickup : better.primary_pickup ≤ worse.primary_pickup
+  pub primary_dial : better.primary_dial ≤ worse.primary_dial
+
+-- the steps that settings have at the row
+abbrev pub steps_at : Settings → Row → RowSteps
+steps_at settings row = record {
+  backup_pickup = slice_index settings.pickup row.backup;
+  backup_dial = slice_index settings.dial row.backup;
+  primary_pickup = slice_index settings.pickup row.primary;
+  primary_dial = slice_index settings.dial row.primary;
+}
+
+in_box_first : (case : Case) (box : Box) (row : Row) (steps : RowSteps) → FitsBox case box → HasRelays box row → AreInBox box row steps → AreFirst case row steps
+in_box_first case box row steps fits relays is = record {
+  backup_pickup = some_each box.pickup (λ i span. IsIn span steps.backup_pickup → IsFirstStep case i steps.backup_pickup) no_span (λ i. fits.pickup i steps.backup_pickup) row.backup (relays.backup Pickup) is.backup_pickup;
+  backup_dial = some_each box.dial (λ i span. IsIn span steps.backup_dial → IsDialStep case i steps.backup_dial) no_span (λ i. fits.dial i steps.backup_dial) row.backup (relays.backup Dial) is.backup_dial;
+  primary_pickup = some_each box.pickup (λ i span. IsIn span steps.primary_pickup → IsFirstStep case i steps.primary_pickup) no_span (λ i. fits.pickup i steps.primary_pickup) row.primary (relays.primary Pickup) is.primary_pickup;
+  primary_dial = some_each box.dial (λ i span. IsIn span steps.primary_dial → IsDialStep case i steps.primary_dial) no_span (λ i. fits.dial i steps.primary_dial) row.primary (relays.primary Dial) is.primary_dial;
+}
+
+-- a dial rises with its step
+dial_rises : (study : StudyData) (relay s t : ℕ) → s ≤ t → dial_at_step study relay s ≤ dial_at_step study relay t
+dial_rises study relay s t le = go (slice_get study.relays relay)
+  where
+    go : (o : Option Relay) → option_map_or (λ (r : Relay). dial_at r s) o 0 ≤ option_map_or (λ (r : Relay). dial_at r t) o 0
+    go None = omega arith
+    go (Some r) = omega (arith, mul-le s r.dial_step t r.dial_step le (omega arith))
+
+better_meets : (case : Case) (row : Row) (worse better : RowSteps) → FitsCase case → Contains (rows_in case) row → AreFirst case row worse → AreFirst case row better
+    → AreBetter worse better → MeetsWith case row worse → MeetsWith case row better
+better_meets case row worse better fits there first_worse first_better is meets =
+    let early = primary_rises case row better.primary_pickup worse.primary_pickup fits there is.primary_pickup first_better.primary_pickup first_worse.primary_pickup in
+    let late = backup_rises case row worse.backup_pickup better.backup_pickup fits there is.backup_pickup first_worse.backup_pickup first_better.backup_pickup in
+    let low = dial_rises case.study row.primary better.primary_dial worse.primary_dial is.primary_dial in
+    let high = dial_rises case.study row.backup worse.backup_dial better.backup_dial is.backup_dial in
+    join (dial_at_step case.study row.primary better.primary_dial) (dial_at_step case.study row.primary worse.primary_dial)
+    (time_at case row.fault row.primary better.primary_pickup).lower (time_at case row.fault row.primary worse.primary_pickup).lower
+    (dial_at_step case.study row.backup worse.backup_dial) (dial_at_step case.study row.backup better.backup_dial)
+    (time_at case row.fault row.backup worse.backup_pickup).upper (time_at case row.fault row.backup better.backup_pickup).upper
+    (interval_ps case.study) low early high late meets
+  where
+    join : (dp dw tp tw db dx tb tx interval : ℕ) → dp ≤ dw → tp ≤ tw → db ≤ dx → tb ≤ tx → dw * tw + interval ≤ db * tb → dp * tp + interval ≤ dx * tx
+    join dp dw tp tw db dx tb tx interval a b c d e = omega (arith, mul-le dp tp dw tw a b, mul-le db tb dx tx c d, e)
+
+-- the steps of a list of spans that are the lowest but at two places
+chosen : List Steps → ℕ → ℕ → ℕ → ℕ → List ℕ
+chosen spans b high p low = set (set (map (λ (span : Steps). span.low) spans) p low) b high
+
+chosen_count : (spans : List Steps) (b high p low : ℕ) → length (chosen spans b high p low) ≡ length spans
+unfolding chosen
+chosen_count spans b high p low = simp (length-set, length-map)
+
+chosen_backup : (spans : List Steps) (b high p low : ℕ) → b < length spans → slice_index (chosen spans b high p low) b ≡ high
+unfolding chosen
+chosen_backup spans b high p low below =
+    let inside : b < length (set (map (λ (span : Steps). span.low) spans) p low) = simp (length-set, length-map) below in
+    get_or-set_same (set (map (λ (span : Steps). span.low) spans) p low) b high 0 inside
+
+chosen_primary : (spans : List Steps) (b high p low : ℕ) → b ≢ p → p < length spans → slice_index (chosen spans b high p low) p ≡ low
+unfolding chosen
+chosen_primary spans b high p low apart below =
+    let inside : p < length (map (λ (span : Steps). span.low) spans) = simp length-map below in
+    get_or-set_other (set (map (λ (span : Steps). span.low) spans) p low) b p high 0 (λ same. apart (sym same))
+    ∙ get_or-set_same (map (λ (span : Steps). span.low) spans) p low 0 inside
+
+chosen_in : (spans : List Steps) (b high p low i : ℕ) → b ≢ p → i < length spans → (get_or spans i no_span).low < (get_or spans i no_span).past
+    → IsIn (get_or spans b no_span) high → IsIn (get_or spans p no_span) low → IsIn (get_or spans i no_span) (slice_index (chosen spans b high p low) i)
+unfolding chosen
+chosen_in spans b high p low i apart below some is_b is_p =
+    elim (cases_eq i b) [
+      | inl at_b ↦ rw at_b (rw (chosen_backup spans b high p low (rw at_b at below)) is_b)
+      | inr off_b ↦ elim (cases_eq i p) [
+        | inl at_p ↦ rw at_p (rw (chosen_primary spans b high p low apart (rw at_p at below)) is_p)
+        | inr off_p ↦
+            let same = get_or-set_other (set (map (λ (span : Steps). span.low) spans) p low) b i high 0 off_b
+            ∙ get_or-set_other (map (λ (span : Steps). span.low) spans) p i low 0 off_p ∙ get_or-map (λ (span : Steps). span.low) spans i no_span 0 below in
+            rw same (record { from = omega arith; before = some })
+      ]
+    ]
+
+-- settings with these steps at the row and the lowest of the box elsewhere
+choice_with : Box → Row → RowSteps → Settings
+choice_with box row steps = record {
+  pickup = chosen box.pickup row.backup steps.backup_pickup row.primary steps.primary_pickup;
+  dial = chosen box.dial row.backup steps.backup_dial row.primary steps.primary_dial;
+}
+
+choice_lies : (box : Box) (row : Row) (steps : RowSteps) → HasSteps box → row.backup ≢ row.primary → AreInBox box row steps → LiesIn box (choice_with box row steps)
+unfolding choice_with
+choice_lies box row steps some apart is =
+    lies box (choice_with box row steps) (chosen_count box.pickup row.backup steps.backup_pickup row.primary steps.primary_pickup)
+    (chosen_count box.dial row.backup steps.backup_dial row.primary steps.primary_dial) each
+  where
+    each : (kind : Kind) (i : ℕ) → i < length (spans_of kind box) → IsIn (span_at kind box i) (step_of kind (choice_with box row steps) i)
+    each Pickup i below = chosen_in box.pickup row.backup steps.backup_pickup row.primary steps.primary_pickup i apart below (has_steps box Pickup i some below) is.backup_pickup is.primary_pickup
+    each Dial i below = chosen_in box.dial row.backup steps.backup_dial row.primary steps.primary_dial i apart below (has_steps box Dial i some below) is.backup_dial is.primary_dial
+
+choice_steps : (box : Box) (row : Row) (steps : RowSteps) → HasRelays box row → row.backup ≢ row.primary → steps_at (choice_with box row steps) row ≡ steps
+unfolding choice_with
+choice_steps box row steps relays apart =
+    let a = chosen_backup box.pickup row.backup steps.backup_pickup row.primary steps.primary_pickup (relays.backup Pickup) in
+    let b = chosen_backup box.dial row.backup steps.backup_dial row.primary steps.primary_dial (relays.backup Dial) in
+    let c = chosen_primary box.pickup row.backup steps.backup_pickup row.primary steps.primary_pickup apart (relays.primary Pickup) in
+    let d = chosen_primary box.dial row.backup steps.backup_dial row.primary steps.primary_dial apart (relays.primary Dial) in
+    rw (a, b, c, d)
+
+-- the step of steps for a setting of one of the relays
+abbrev pub step_for : Part → Kind → RowSteps → ℕ
+step_for Backup Pickup steps = steps.backup_pickup
+step_for Backup Dial steps = steps.backup_dial
+step_for Primary Pickup steps = steps.primary_pickup
+step_for Primary Dial steps = steps.primary_dial
+
+step_for_is : (part : Part) (kind : Kind) (settings : Settings) (row : Row) → step_of kind settings (relay_of part row) ≡ step_for part kind (steps_at settings row)
+step_for_is Backup Pickup settings row = refl
+step_for_is Backup Dial settings row = refl
+step_for_is Primary Pickup settings row = refl
+step_for_is Primary Dial settings row = refl
+
+step_for_with : (part : Part) (kind : Kind) (steps : RowSteps) (step : ℕ) → step_for part kind (with_step part kind steps step) ≡ step
+step_for_with Backup Pickup steps step = refl
+step_for_with Backup Dial steps step = refl
+step_for_with Primary Pickup steps step = refl
+step_for_with Primary Dial steps step = refl
+
+-- steps of the box that meet the row give a choice of the box that does
+meets_settings : (case : Case) (box : Box) (row : Row) (steps : RowSteps) → HasSteps box → HasRelays box row → row.backup ≢ row.primary → AreInBox box row steps → MeetsWith case row steps
+    → (settings : Settings) × LiesIn box settings × (steps_at settings row ≡ steps) × MeetsLoosely case settings row
+meets_settings case box row steps some relays apart is meets =
+    let same = choice_steps box row steps relays apart in
+    (choice_with box row steps, choice_lies box row steps some apart is, same, subst (λ (s : RowSteps). MeetsWith case row s) (sym same) meets)
+
+best_in_box : (box : Box) (row : Row) → HasSteps box → HasRelays box row → AreInBox box row (best_steps box row)
+best_in_box box row some relays = record {
+  backup_pickup = highest (span_at Pickup box row.backup) (has_steps box Pickup row.backup some (relays.backup Pickup));
+  backup_dial = highest (span_at Dial box row.backup) (has_steps box Dial row.backup some (relays.backup Dial));
+  primary_pickup = record { from = omega arith; before = has_steps box Pickup row.primary some (relays.primary Pickup) };
+  primary_dial = record { from = omega arith; before = has_steps box Dial row.primary some (relays.primary Dial) };
+}
+  where
+    highest : (span : Steps) → span.low < span.past → IsIn span (span.past - 1)
+    highest span some = record { from = omega (arith, some); before = omega (arith, some) }
+
+with_in_box : (part : Part) (kind : Kind) (box : Box) (row : Row) (steps : RowSteps) (step : ℕ) → AreInBox box row steps → IsIn (span_at kind box (relay_of part row)) step
+    → AreInBox box row (with_step part kind steps step)
+with_in_box Backup Pickup box row steps step is is_in = record { backup_pickup = is_in; backup_dial = is.backup_dial; primary_pickup = is.primary_pickup; primary_dial = is.primary_dial }
+with_in_box Backup Dial box row steps step is is_in = record { backup_pickup = is.backup_pickup; backup_dial = is_in; primary_pickup = is.primary_pickup; primary_dial = is.primary_dial }
+with_in_box Primary Pickup box row steps step is is_in = record { backup_pickup = is.backup_pickup; backup_dial = is.backup_dial; primary_pickup = is_in; primary_dial = is.primary_dial }
+with_in_box Primary Dial box row steps step is is_in = record { backup_pickup = is.backup_pickup; backup_dial = is.backup_dial; primary_pickup = is.primary_pickup; primary_dial = is_in }
+
+-- the steps that settings of the box have at the row, which lie in the box and are no better than the best
+settings_in_box : (box : Box) (row : Row) (settings : Settings) → HasRelays box row → LiesIn box settings → AreInBox box row (steps_at settings row)
+settings_in_box box row settings relays h = record {
+  backup_pickup = lies_at box settings Pickup row.backup h (relays.backup Pickup);
+  backup_dial = lies_at box settings Dial row.backup h (relays.backup Dial);
+  primary_pickup = lies_at box settings Pickup row.primary h (relays.primary Pickup);
+  primary_dial = lies_at box settings Dial row.primary h (relays.primary Dial);
+}
+
+best_is_better : (box : Box) (row : Row) (steps : RowSteps) → AreInBox box row steps → AreBetter steps (best_steps box row)
+best_is_better box row steps is = record {
+  backup_pickup = omega (arith, is.backup_pickup.before);
+  backup_dial = omega (arith, is.backup_dial.before);
+  primary_pickup = is.primary_pickup.from;
+  primary_dial = is.primary_dial.from;
+}
+
+-- with one step kept, the rest of the best steps is still better
+best_with_better : (part : Part) (kind : Kind) (box : Box) (row : Row) (steps : RowSteps) → AreInBox box row steps → AreBetter steps (with_step part kind (best_steps box row) (step_for part kind steps))
+best_with_better Backup Pickup box row steps is = let b = best_is_better box row steps is in record { backup_pickup = omega arith; backup_dial = b.backup_dial; primary_pickup = b.primary_pickup; primary_dial = b.primary_dial }
+best_with_better Backup Dial box row steps is = let b = best_is_better box row steps is in record { backup_pickup = b.backup_pickup; backup_dial = omega arith; primary_pickup = b.primary_pickup; primary_dial = b.primary_dial }
+best_with_better Primary Pickup box row steps is = let b = best_is_better box row steps is in record { backup_pickup = b.backup_pickup; backup_dial = b.backup_dial; primary_pickup = omega arith; primary_dial = b.primary_dial }
+best_with_better Primary Dial box row steps is = let b = best_is_better box row steps is in record { backup_pickup = b.backup_pickup; backup_dial = b.backup_dial; primary_pickup = b.primary_pickup; primary_dial = omega arith }
+
+-- a higher step of the backup is better, and so is a lower one of the primary
+higher_better : (kind : Kind) (steps : RowSteps) (s t : ℕ) → s ≤ t → AreBetter (with_step Backup kind steps s) (with_step Backup kind steps t)
+higher_better Pickup steps s t le = record { backup_pickup = le; backup_dial = omega arith; primary_pickup = omega arith; primary_dial = omega arith }
+higher_better Dial steps s t le = record { backup_pickup = omega arith; backup_dial = le; primary_pickup = omega arith; primary_dial = omega arith }
+
+lower_better : (kind : Kind) (steps : RowSteps) (s t : ℕ) → t ≤ s → AreBetter (with_step Primary kind steps s) (with_step Primary kind steps t)
+lower_better Pickup steps s t le = record { backup_pickup = omega arith; backup_dial = omega arith; primary_pickup = le; primary_dial = omega arith }
+lower_better Dial steps s t le = record { backup_pickup = omega arith; backup_dial = omega arith; primary_pickup = omega arith; primary_dial = le }
+
+module _ (case : Case) (box : Box) (row : Row) (filled : IsFilled case box) (there : Contains (rows_in case) row) where
+  relays : HasRelays box row
+  relays = relay_counts case box row filled.fits there
+
+  pub best_first : AreFirst case row (best_steps box row)
+  best_first = in_box_first case box row (best_steps box row) filled.fits relays (best_in_box box row filled.steps relays)
+
+  pub with_first : (part : Part) (kind : Kind) (step : ℕ) → IsIn (span_at kind box (relay_of part row)) step → AreFirst case row (with_step part kind (best_steps box row) step)
+  with_first part kind step is =
+      in_box_first case box row (with_step part kind (best_steps box row) step) filled.fits relays (with_in_box part kind box row (best_steps box row) step (best_in_box box row filled.steps relays) is)
+
+  pub best_meetable : MeetsWith case row (best_steps box row) → IsMeetable case box row
+  best_meetable meets =
+      let found = meets_settings case box row (best_steps box row) filled.steps relays (relays_apart case row there) (best_in_box box row filled.steps relays) meets in
+      record { settings = found.0; lies = found.1; meets = found.3 }
+
+  pub meetable_best : IsMeetable case box row → MeetsWith case row (best_steps box row)
+  meetable_best m =
+      let is = settings_in_box box row m.settings relays m.lies in
+      better_meets case row (steps_at m.settings row) (best_steps box row) filled.limits there (in_box_first case box row (steps_at m.settings row) filled.fits relays is) best_first
+      (best_is_better box row (steps_at m.settings row) is) m.meets
+
+  pub with_can : (part : Part) (kind : Kind) (step : ℕ) → IsIn (span_at kind box (relay_of part row)) step
+      → MeetsWith case row (with_step part kind (best_steps box row) step) → CanMeet case box kind (relay_of part row) step row
+  with_can part kind step is meets =
+      let steps = with_step part kind (best_steps box row) step in
+      let found = meets_settings case box row steps filled.steps relays (relays_apart case row there) (with_in_box part kind box row (best_steps box row) step (best_in_box box row filled.steps relays) is) meets in
+      record {
+        settings = found.0;
+        lies = found.1;
+        has = step_for_is part kind found.0 row ∙ ap (step_for part kind) found.2 ∙ step_for_with part kind (best_steps box row) step;
+        meets = found.3;
+      }
+
+  pub relay_below : (part : Part) (kind : Kind) → relay_of part row < length (spans_of kind box)
+  relay_below Backup kind = relays.backup kind
+  relay_below Primary kind = relays.primary kind
+
+  pub can_in : (part : Part) (kind : Kind) (step : ℕ) → CanMeet case box kind (relay_of part row) step row → IsIn (span_at kind box (relay_of part row)) step
+  can_in part kind step m = rw m.has at (lies_at box m.settings kind (relay_of part row) m.lies (relay_below part kind))
+
+  pub can_with : (part : Part) (kind : Kind) (step : ℕ) → CanMeet case box kind (relay_of part row) step row → MeetsWith case row (with_step part kind (best_steps box row) step)
+  can_with part kind step m =
+      let steps = steps_at m.settings row in
+      let is = settings_in_box box row m.settings relays m.lies in
+      let has : step_for part kind steps ≡ step = sym (step_for_is part kind m.settings row) ∙ m.has in
+      let better = subst (λ (s : ℕ). AreBetter steps (with_step part kind (best_steps box row) s)) has (best_with_better part kind box row steps is) in
+      better_meets case row steps (with_step part kind (best_steps box row) step) filled.limits there (in_box_first case box row steps filled.fits relays is)
+      (with_first part kind step (can_in part kind step m)) better m.meets
+
+  pub meetable_at : (part : Part) (kind : Kind) (m : IsMeetable case box row) → CanMeet case box kind (relay_of part row) (step_of kind m.settings (relay_of part row)) row
+  meetable_at part kind m = record { settings = m.settings; lies = m.lies; has = refl; meets = m.meets }
+
+  pub can_rise : (kind : Kind) (s t : ℕ) → s ≤ t → t < (span_at kind box row.backup).past → CanMeet case box kind row.backup s row → CanMeet case box kind row.backup t row
+  can_rise kind s t le before m =
+      let is_s = can_in Backup kind s m in
+      let is_t : IsIn (span_at kind box row.backup) t = record { from = omega (arith, is_s.from, le); before = before } in
+      let best = best_steps box row in
+      with_can Backup kind t is_t (better_meets case row (with_step Backup kind best s) (with_step Backup kind best t) filled.limits there
+      (with_first Backup kind s is_s) (with_first Backup kind t is_t) (higher_better kind best s t le) (can_with Backup kind s m))
+
+  pub can_fall : (kind : Kind) (s t : ℕ) → t ≤ s → (span_at kind box row.primary).low ≤ t → CanMeet case box kind row.primary s row → CanMeet case box kind row.primary t row
+  can_fall kind s t le from m =
+      let is_s = can_in Primary kind s m in
+      let is_t : IsIn (span_at kind box row.primary) t = record { from = from; before = omega (arith, is_s.before, le) } in
+      let best = best_steps box row in
+      with_can Primary kind t is_t (better_meets case row (with_step Primary kind best s) (with_step Primary kind best t) filled.limits there
+      (with_first Primary kind s is_s) (with_first Primary kind t is_t) (lower_better kind best s t le) (can_with Primary kind s m))
+
+  -- a row that can be met can be met with the highest step of the backup, and with the lowest of the primary
+  pub meets_highest : (kind : Kind) → IsMeetable case box row → CanMeet case box kind row.backup ((span_at kind box row.backup).past - 1) row
+  meets_highest kind m =
+      let at = meetable_at Backup kind m in
+      let is = can_in Backup kind (step_of kind m.settings row.backup) at in
+      can_rise kind (step_of kind m.settings row.backup) ((span_at kind box row.backup).past - 1) (omega (arith, is.before)) (omega (arith, is.before)) at
+
+  pub meets_lowest : (kind : Kind) → IsMeetable case box row → CanMeet case box kind row.primary (span_at kind box row.primary).low row
+  meets_lowest kind m =
+      let at = meetable_at Primary kind m in
+      can_fall kind (step_of kind m.settings row.primary) (span_at kind box row.primary).low (can_in Primary kind (step_of kind m.settings row.primary) at).from (omega arith) at

@@ -1,0 +1,74 @@
+-- Whether a row can be met in a box, by the steps of its two relays (ours).
+use Rattle.std.specs.Prelude.{◌≡◌, ℕ, ◌+◌, ◌-◌, ◌*◌, ◌<◌, ◌≤◌, Some, length, slice_get}
+use Rattle.std.specs.Option.{option_map_or}
+use Rattle.coord_model.specs.Choice.{Settings}
+use Rattle.coord_model.specs.StudyData.{StudyData}
+use Rattle.coord_model.specs.Time.{dial_at}
+use Rattle.coord_model.specs.declared.study.Row.{Row}
+use Rattle.margin_rows.specs.Box.{Box, FitsBox, LiesIn, IsDialStep}
+use Rattle.margin_rows.specs.Case.{Case, rows_in, FitsCase}
+use Rattle.margin_rows.specs.Dial.{dial_at_step}
+use Rattle.margin_rows.specs.FirstBox.{IsFirstStep}
+use Rattle.margin_rows.specs.Margin.{interval_ps, MeetsLoosely}
+use Rattle.margin_rows.specs.Times.{time_at}
+use Rattle.box_range.specs.Kinds.{spans_of, span_at, HasSteps}
+use Rattle.box_range.specs.declared.kind.Kind.{Kind}
+use Rattle.box_range.specs.declared.kind.Kind.TheVariants.{Pickup, Dial}
+use Rattle.box_range.specs.declared.row.Part.{Part}
+use Rattle.box_range.specs.declared.row.Part.TheVariants.{Backup, Primary}
+use Rattle.box_range.specs.declared.row.RowSteps.{RowSteps}
+
+-- the row has this number
+abbrev pub HasRow : Case → ℕ → Row → Type 0
+HasRow case number row = slice_get (rows_in case) number ≡ Some row
+
+-- the case is within the limits, and the box lies in its first box and has a step in each span
+pub record IsFilled (case : Case) (box : Box) : Type 0 where
+  pub limits : FitsCase case
+  pub fits : FitsBox case box
+  pub steps : HasSteps box
+
+-- some choice of the box loosely meets the row
+pub record IsMeetable (case : Case) (box : Box) (row : Row) : Type 0 where
+  pub settings : Settings
+  pub lies : LiesIn box settings
+  pub meets : MeetsLoosely case settings row
+
+-- the box has spans for the two relays of the row
+pub record HasRelays (box : Box) (row : Row) : Type 0 where
+  pub backup : (kind : Kind) → row.backup < length (spans_of kind box)
+  pub primary : (kind : Kind) → row.primary < length (spans_of kind box)
+
+-- the relay that has this part in the row
+abbrev pub relay_of : Part → Row → ℕ
+relay_of Backup row = row.backup
+relay_of Primary row = row.primary
+
+-- the steps lie in the first box
+pub record AreFirst (case : Case) (row : Row) (steps : RowSteps) : Type 0 where
+  pub backup_pickup : IsFirstStep case row.backup steps.backup_pickup
+  pub backup_dial : IsDialStep case row.backup steps.backup_dial
+  pub primary_pickup : IsFirstStep case row.primary steps.primary_pickup
+  pub primary_dial : IsDialStep case row.primary steps.primary_dial
+
+-- the highest steps of the backup and the lowest of the primary
+abbrev pub best_steps : Box → Row → RowSteps
+best_steps box row = record {
+  backup_pickup = (span_at Pickup box row.backup).past - 1;
+  backup_dial = (span_at Dial box row.backup).past - 1;
+  primary_pickup = (span_at Pickup box row.primary).low;
+  primary_dial = (span_at Dial box row.primary).low;
+}
+
+-- the steps with another one for a setting of one of the relays
+abbrev pub with_step : Part → Kind → RowSteps → ℕ → RowSteps
+with_step Backup Pickup steps step = record steps { backup_pickup = step }
+with_step Backup Dial steps step = record steps { backup_dial = step }
+with_step Primary Pickup steps step = record steps { primary_pickup = step }
+with_step Primary Dial steps step = record steps { primary_dial = step }
+
+-- the row is loosely met with these steps of its relays
+abbrev pub MeetsWith : Case → Row → RowSteps → Type 0
+MeetsWith case row steps =
+    dial_at_step case.study row.primary steps.primary_dial * (time_at case row.fault row.primary steps.primary_pickup).lower + interval_ps case.study
+    ≤ dial_at_step case.study row.backup steps.backup_dial * (time_at case row.fault row.backup steps.backup_pickup).upper

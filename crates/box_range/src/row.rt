@@ -1,0 +1,134 @@
+//! Whether a row can be met: its two relays and their steps.
+ghost use Rattle.std.specs.Prelude.{◌≡◌, ◌<◌, ◌≤◌, ◌^◌, ◌↔◌, length, IsTrue};
+ghost use Rattle.margin_rows.specs.Box.{IsIn};
+ghost use Rattle.margin_rows.specs.Margin.{interval_ps};
+ghost use Rattle.box_range.specs.Drops.{CanMeet};
+ghost use Rattle.box_range.specs.Kinds.{spans_of, span_at, HasSteps};
+ghost use Rattle.box_range.specs.Meeting.{HasRow, IsFilled, IsMeetable, AreFirst, MeetsWith, HasRelays, relay_of, best_steps, with_step};
+
+use crate::kind::{Kind, span};
+use coord_model::Row;
+use margin_rows::{Instance, Ranges, dial_at};
+
+/// A row and its number.
+#[derive(Clone, Copy)]
+pub struct Place {
+    pub number: u16,
+    pub row: Row,
+}
+
+/// What a relay is in a row.
+#[derive(Clone, Copy)]
+pub enum Part {
+    Backup,
+    Primary,
+}
+
+/// The steps of a row's two relays.
+#[derive(Clone, Copy)]
+pub struct RowSteps {
+    pub backup_pickup: u16,
+    pub backup_dial: u16,
+    pub primary_pickup: u16,
+    pub primary_dial: u16,
+}
+
+/// Whether some choice of the box loosely meets the row.
+pub fn is_meetable(inst: &Instance, ranges: &Ranges, at: Place) -> bool
+    requires filled { IsFilled inst.now ranges.now }
+    requires place { HasRow inst.now at.number at.row }
+    ensures { IsTrue result ↔ IsMeetable inst.now ranges.now at.row }
+{
+    meets(inst, at, best(ranges, at.row))
+}
+
+/// Whether some choice of the box with this step of one of the row's relays loosely meets the row.
+pub fn can_meet(
+    inst: &Instance,
+    ranges: &Ranges,
+    at: Place,
+    part: Part,
+    kind: Kind,
+    step: u16,
+) -> bool
+    requires filled { IsFilled inst.now ranges.now }
+    requires place { HasRow inst.now at.number at.row }
+    requires step { IsIn (span_at kind ranges.now (relay_of part at.row)) step }
+    ensures { IsTrue result ↔ CanMeet inst.now ranges.now kind (relay_of part at.row) step at.row }
+{
+    meets(inst, at, with_step(best(ranges, at.row), part, kind, step))
+}
+
+/// The steps of a box at which a row is met best: the backup as slow and the primary as quick as can be.
+fn best(ranges: &Ranges, row: Row) -> RowSteps
+    requires steps { HasSteps ranges.now }
+    requires relays { HasRelays ranges.now row }
+    ensures { result ≡ best_steps ranges.now row }
+{
+    RowSteps {
+        backup_pickup: span(ranges, Kind::Pickup, row.backup).hi,
+        backup_dial: span(ranges, Kind::Dial, row.backup).hi,
+        primary_pickup: span(ranges, Kind::Pickup, row.primary).lo,
+        primary_dial: span(ranges, Kind::Dial, row.primary).lo,
+    }
+}
+
+/// The steps with another one for a setting of one of the relays.
+fn with_step(steps: RowSteps, part: Part, kind: Kind, step: u16) -> RowSteps
+    ensures { result ≡ with_step part kind steps step }
+{
+    match part {
+        Part::Backup => with_backup(steps, kind, step),
+        Part::Primary => with_primary(steps, kind, step),
+    }
+}
+
+fn with_backup(steps: RowSteps, kind: Kind, step: u16) -> RowSteps
+    ensures { result ≡ with_step Part.Backup kind steps step }
+{
+    match kind {
+        Kind::Pickup => RowSteps {
+            backup_pickup: step,
+            ..steps
+        },
+        Kind::Dial => RowSteps {
+            backup_dial: step,
+            ..steps
+        },
+    }
+}
+
+fn with_primary(steps: RowSteps, kind: Kind, step: u16) -> RowSteps
+    ensures { result ≡ with_step Part.Primary kind steps step }
+{
+    match kind {
+        Kind::Pickup => RowSteps {
+            primary_pickup: step,
+            ..steps
+        },
+        Kind::Dial => RowSteps {
+            primary_dial: step,
+            ..steps
+        },
+    }
+}
+
+/// Whether a row is loosely met with these steps of its relays.
+fn meets(inst: &Instance, at: Place, steps: RowSteps) -> bool
+    requires place { HasRow inst.now at.number at.row }
+    requires steps { AreFirst inst.now at.row steps }
+    ensures { IsTrue result ↔ MeetsWith inst.now at.row steps }
+{
+    let (backup, primary) = inst.row_times(at.number, steps.backup_pickup, steps.primary_pickup);
+    let latest = dial_at(inst, at.row.backup, steps.backup_dial) * backup.1;
+    let earliest = dial_at(inst, at.row.primary, steps.primary_dial) * primary.0;
+    earliest + interval_ps(inst) <= latest
+}
+
+/// The coordination interval, in picoseconds.
+fn interval_ps(inst: &Instance) -> u64
+    ensures exact { result ≡ interval_ps inst.now.study }
+    ensures small { result < 2 ^ 54 }
+{
+    u64::from(inst.study().cti_ms) * 1_000_000_000
+}
