@@ -1,3 +1,3 @@
-pub mod ChoiceLaws
 pub mod EndLaws
 pub mod ReadingLaws
+pub mod TightLaws

@@ -1,71 +1,61 @@
--- How a coordination ends, and what each ending asserts.
-use Rattle.std.specs.Prelude.{◌≡◌, ℕ, ◌<◌, Some, None, length, All}
-use Rattle.coord_model.specs.Allowed.{IsAllowed}
+-- How a coordination ends, and what it issues or names.
+use Rattle.std.specs.Prelude.{ℕ, Option, Some, None}
+use Rattle.std.specs.Option.{option_map}
 use Rattle.coord_model.specs.Choice.{Settings, choice_data}
-use Rattle.coord_model.specs.Cost.{CostsAtLeast, CostsAtMost}
+use Rattle.coord_model.specs.declared.choice.Ending.{Ending}
 use Rattle.coord_model.specs.declared.choice.Ending.TheVariants as ending
+use Rattle.coord_run.specs.declared.outcome.Hair.{Hair}
+use Rattle.coord_run.specs.declared.outcome.Issued.{Issued}
 use Rattle.coord_run.specs.declared.outcome.Outcome.{Outcome}
 use Rattle.coord_run.specs.declared.outcome.Outcome.TheVariants.{Closed, NoSettings, Hairline}
-use Rattle.margin_rows.specs.Case.{AtRow, Case, rows_in}
-use Rattle.margin_rows.specs.FirstBox.{IsInFirstBox}
-use Rattle.margin_rows.specs.Margin.{MeetsLoosely, MeetsStrictly}
-use Rattle.margin_rows.specs.Price.{cost_of, lower_cost_of}
 use Rattle.settings_sheet.specs.SheetText.{SheetData}
 
--- an ending with what it issues or names: settings, cost, bound, row
+-- issued settings and their cost
+pub record IssuedData : Type 0 where
+  pub settings : Settings
+  pub cost : ℕ
+
+-- settings that the enclosures do not decide, and a row that shows it
+pub record HairData : Type 0 where
+  pub settings : Settings
+  pub row : ℕ
+
+-- an ending: what is issued, where a hairline stands, and the bound
 pub data OutcomeData : Type 0 where
-  closed : Settings → ℕ → ℕ → OutcomeData
+  closed : IssuedData → ℕ → OutcomeData
   no_settings : OutcomeData
-  hairline : Settings → ℕ → ℕ → OutcomeData
+  hairline : Option IssuedData → HairData → ℕ → OutcomeData
 
--- the data of an outcome
+-- the data of what is issued, of a hairline and of an outcome
+abbrev pub issued_data : Issued → IssuedData
+issued_data issued = record { settings = choice_data issued.choice; cost = issued.cost }
+
+abbrev pub hair_data : Hair → HairData
+hair_data hair = record { settings = choice_data hair.choice; row = hair.row }
+
 abbrev pub outcome_data : Outcome → OutcomeData
-outcome_data (Closed choice cost bound) = closed (choice_data choice) cost bound
+outcome_data (Closed issued bound) = closed (issued_data issued) bound
 outcome_data NoSettings = no_settings
-outcome_data (Hairline choice row bound) = hairline (choice_data choice) row bound
+outcome_data (Hairline issued hair bound) = hairline (option_map issued_data issued) (hair_data hair) bound
 
--- every allowed choice costs at least the bound
-abbrev pub IsBound : Case → ℕ → Type 0
-IsBound case bound = (other : Settings) → IsAllowed case.study case.currents other → CostsAtLeast case.study case.currents other bound
-
--- The settings are allowed, the cost is theirs and they cost at most so much. The bound is their least cost, and no allowed
--- settings cost less.
-pub record IsClosed (case : Case) (settings : Settings) (cost bound : ℕ) : Type 0 where
-  pub allowed : IsAllowed case.study case.currents settings
-  pub cost_is : cost ≡ cost_of case settings
-  pub at_most : CostsAtMost case.study case.currents settings cost
-  pub bound_is : bound ≡ lower_cost_of case settings
-  pub bounded : IsBound case bound
-
--- no choice is allowed
-abbrev pub HasNoSettings : Case → Type 0
-HasNoSettings case = (other : Settings) → ¬ IsAllowed case.study case.currents other
-
--- The settings meet every row loosely, and strictly those before the row that is named, but not that one; no allowed
--- ones cost less than the bound.
-pub record IsHairline (case : Case) (settings : Settings) (row bound : ℕ) : Type 0 where
-  pub first_box : IsInFirstBox case settings
-  pub is_row : row < length (rows_in case)
-  pub loosely : All (MeetsLoosely case settings) (rows_in case)
-  pub not_strictly : AtRow case row (λ r. ¬ MeetsStrictly case settings r)
-  pub bound_is : bound ≡ lower_cost_of case settings
-  pub strictly_before : (earlier : ℕ) → earlier < row → AtRow case earlier (MeetsStrictly case settings)
-  pub bounded : IsBound case bound
-
--- the ending is true of the case
-abbrev pub IsTrueOf : Case → OutcomeData → Type 0
-IsTrueOf case (closed settings cost bound) = IsClosed case settings cost bound
-IsTrueOf case no_settings = HasNoSettings case
-IsTrueOf case (hairline settings row bound) = IsHairline case settings row bound
+-- the sheet of an ending, of what is issued and of a bound
+abbrev pub sheet_with : Ending → Option IssuedData → Option ℕ → SheetData
+sheet_with ending issued bound = record {
+  ending = ending;
+  cost = option_map (λ i. i.cost) issued;
+  bound = bound;
+  settings = option_map (λ i. i.settings) issued;
+}
 
 -- the sheet of an outcome
 abbrev pub sheet_of : OutcomeData → SheetData
-sheet_of (closed settings cost bound) = record { ending = ending.Closed; cost = Some cost; bound = Some bound; settings = Some settings }
-sheet_of no_settings = record { ending = ending.NoSettings; cost = None; bound = None; settings = None }
-sheet_of (hairline settings row bound) = record { ending = ending.Hairline; cost = None; bound = Some bound; settings = None }
+sheet_of (closed issued bound) = sheet_with ending.Closed (Some issued) (Some bound)
+sheet_of no_settings = sheet_with ending.NoSettings None None
+sheet_of (hairline issued hair bound) = sheet_with ending.Hairline issued (Some bound)
 
 -- the status of an outcome
 abbrev pub outcome_status : OutcomeData → ℕ
-outcome_status (closed settings cost bound) = 0
+outcome_status (closed issued bound) = 0
 outcome_status no_settings = 3
-outcome_status (hairline settings row bound) = 7
+outcome_status (hairline (Some issued) hair bound) = 6
+outcome_status (hairline None hair bound) = 7

@@ -1,7 +1,7 @@
 -- The report that `solve` prints (ours): a line for the ending, and at a hairline the row and the relays' settings.
-use Rattle.std.specs.Prelude.{ℕ, ℤ, Option, Some, None, List, [], ◌++◌, codes, slice_get}
+use Rattle.std.specs.Prelude.{ℕ, ℤ, Option, Some, List, [], ◌++◌, codes, slice_get}
 use Rattle.std.specs.Fmt.{decimal, signed_decimal}
-use Rattle.std.specs.Option.{option_map_or}
+use Rattle.std.specs.Option.{option_map, option_map_or}
 use Rattle.coord_model.specs.Choice.{Settings}
 use Rattle.coord_model.specs.StudyData.{StudyData}
 use Rattle.coord_model.specs.declared.study.Row.{Row}
@@ -41,7 +41,7 @@ row_text_at case settings row = option_map_or (row_text case settings) (slice_ge
 
 -- the report of an outcome
 abbrev pub report_text : Case → OutcomeData → List ℕ
-report_text case (closed settings cost bound) = ending_line (codes "closed") (Some cost) bound
+report_text case (closed issued bound) = ending_line (codes "closed") (Some issued.cost) bound
 report_text case no_settings = codes "no settings boxes 1\n"
-report_text case (hairline settings row bound) =
-    ending_line (codes "hairline") None bound ++ row_text_at case settings row ++ relay_lines case.study settings
+report_text case (hairline issued hair bound) =
+    ending_line (codes "hairline") (option_map (λ i. i.cost) issued) bound ++ row_text_at case hair.settings hair.row ++ relay_lines case.study hair.settings

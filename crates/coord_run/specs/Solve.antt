@@ -1,20 +1,20 @@
 -- What `solve` does, from the files that are read to the sheet and the report that are written (ours).
-use Rattle.std.specs.Prelude.{◌≡◌, ℕ, ◌<◌, ◌≤◌, Some, None, List, length, codes, true}
-use Rattle.std.specs.List.{list_any}
+use Rattle.std.specs.Prelude.{◌≡◌, ℕ, ◌<◌, ◌≤◌, List, length, codes}
 use Rattle.coord_io.specs.Faults.{Rose}
 use Rattle.coord_io.specs.Files.{Becomes, StaysOrPart}
 use Rattle.coord_io.specs.Goes.{Goes}
 use Rattle.coord_run.specs.Inputs.{AreInputs}
-use Rattle.coord_run.specs.Outcome.{IsTrueOf, OutcomeData, outcome_status, sheet_of}
+use Rattle.coord_run.specs.Ending.{IsTrueOf}
+use Rattle.coord_run.specs.Outcome.{OutcomeData, outcome_status, sheet_of}
 use Rattle.coord_run.specs.Outside.{Folder, IsReadAlone, Prints, Sink, Told}
 use Rattle.coord_run.specs.Reading.{InputsCause}
 use Rattle.coord_run.specs.Refusal.{file_text}
 use Rattle.coord_run.specs.Report.{report_text}
 use Rattle.coord_run.specs.SolveRefusal.{solve_status, solve_text}
-use Rattle.coord_run.specs.Steps.{IsBuilt, has_steps}
+use Rattle.coord_run.specs.Steps.{HasManyPickups}
 use Rattle.coord_run.specs.Words.{SolveNames}
 use Rattle.coord_run.specs.declared.refusal.CaseRefusal.{CaseRefusal}
-use Rattle.coord_run.specs.declared.refusal.CaseRefusal.TheVariants.{StepsNotBuilt, TooManyRows}
+use Rattle.coord_run.specs.declared.refusal.CaseRefusal.TheVariants.{TooManyRows, PickupsNotBuilt}
 use Rattle.coord_run.specs.declared.refusal.SolveRefusal.{SolveRefusal}
 use Rattle.coord_run.specs.declared.refusal.SolveRefusal.TheVariants.{Inputs, Uncoordinated}
 use Rattle.margin_rows.specs.Case.{Case, rows_in}
@@ -27,18 +27,18 @@ ReadAs names before after P =
 
 -- why a case comes to no ending
 abbrev pub CaseCause : Case → CaseRefusal → Type 0
-CaseCause case StepsNotBuilt = list_any has_steps case.study.relays ≡ true
-CaseCause case TooManyRows = IsBuilt case.study × (4096 < length (rows_in case))
+CaseCause case TooManyRows = 4096 < length (rows_in case)
+CaseCause case PickupsNotBuilt = (length (rows_in case) ≤ 4096) × HasManyPickups case
 
 -- the refusal has its cause, and no earlier place refused
 abbrev pub SolveCause : SolveNames → Folder → Folder → SolveRefusal → Type 0
 SolveCause names before after (Inputs refusal) = InputsCause before after names.network names.currents refusal
 SolveCause names before after (Uncoordinated refusal) = ReadAs names before after (λ case. CaseCause case refusal)
 
--- the case is built, and the outcome is true of it
+-- the case is within what is built, and the outcome is true of it
 pub record ComesTo (case : Case) (outcome : OutcomeData) : Type 0 where
-  pub built : IsBuilt case.study
   pub few_rows : length (rows_in case) ≤ 4096
+  pub built : ¬ (HasManyPickups case)
   pub outcome_is_true : IsTrueOf case outcome
 
 -- the case is that of the files, and it comes to the outcome

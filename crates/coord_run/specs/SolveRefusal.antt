@@ -5,18 +5,18 @@ use Rattle.coord_run.specs.Refusal.{inputs_status, inputs_text}
 use Rattle.coord_run.specs.RefusalText.{too_many_text}
 use Rattle.coord_run.specs.Words.{SolveNames}
 use Rattle.coord_run.specs.declared.refusal.CaseRefusal.{CaseRefusal}
-use Rattle.coord_run.specs.declared.refusal.CaseRefusal.TheVariants.{StepsNotBuilt, TooManyRows}
+use Rattle.coord_run.specs.declared.refusal.CaseRefusal.TheVariants.{TooManyRows, PickupsNotBuilt}
 use Rattle.coord_run.specs.declared.refusal.SolveRefusal.{SolveRefusal}
 use Rattle.coord_run.specs.declared.refusal.SolveRefusal.TheVariants.{Inputs, Uncoordinated}
 
 -- the line and the status of a case that comes to no ending
 abbrev pub case_text : CaseRefusal → List ℕ
-case_text StepsNotBuilt = codes "not built: steps\n"
 case_text TooManyRows = too_many_text what.Rows 4096
+case_text PickupsNotBuilt = codes "not built: pickups\n"
 
 abbrev pub case_status : CaseRefusal → ℕ
-case_status StepsNotBuilt = 21
 case_status TooManyRows = 15
+case_status PickupsNotBuilt = 21
 
 -- the line and the status of a refusal
 abbrev pub solve_text : SolveNames → SolveRefusal → List ℕ

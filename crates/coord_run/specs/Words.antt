@@ -18,11 +18,6 @@ are_names network currents sheet =
     is_name network && is_name currents && is_name sheet
     && not (bytes_eq network currents) && not (bytes_eq network sheet) && not (bytes_eq currents sheet)
 
--- a command with its names
-pub data Command : Type 0 where
-  solve : SolveNames → Command
-  pairs : List ℕ → Command
-
 -- the names of `solve NETWORK CURRENTS SHEET`, if the words are that command
 unfoldable pub solve_of : List (List ℕ) → Option SolveNames
 solve_of (command ∷ network ∷ currents ∷ sheet ∷ []) =

@@ -1,81 +1,107 @@
-//! What a coordination with one choice comes to.
-ghost use Rattle.std.specs.Prelude.{◌≡◌, ◌<◌, ◌↔◌, ℕ, length, All, IfOk, IsTrue};
-ghost use Rattle.coord_model.specs.Allowed.{IsAllowed};
+//! What a coordination comes to where each relay has one pickup step in the first box.
+ghost use Rattle.std.specs.Prelude.{◌≡◌, ◌+◌, ◌<◌, ℕ, length, All, IfOk, IfSome, IsNone};
+ghost use Rattle.std.specs.Option.{option_map};
 ghost use Rattle.coord_model.specs.Choice.{choice_data};
-ghost use Rattle.coord_run.specs.Outcome.{IsTrueOf, outcome_data, sheet_of};
-ghost use Rattle.coord_run.specs.Steps.{IsBuilt};
-ghost use Rattle.margin_rows.specs.Case.{AtRow, rows_in};
+ghost use Rattle.coord_run.specs.Ending.{AreLowestTight, IsFirstUnmet, IsGap, IsIssuedOf, IsTrueOf, IsUndecided};
+ghost use Rattle.coord_run.specs.Outcome.{hair_data, issued_data, outcome_data, sheet_of};
+ghost use Rattle.coord_run.specs.Steps.{HasManyPickups};
+ghost use Rattle.margin_rows.specs.Case.{rows_in};
 ghost use Rattle.margin_rows.specs.FirstBox.{IsInFirstBox};
-ghost use Rattle.margin_rows.specs.Margin.{MeetsLoosely, MeetsStrictly};
+ghost use Rattle.margin_rows.specs.Margin.{MeetsStrictly};
 ghost use Rattle.settings_sheet.specs.SheetText.{IsSheet};
 
-use crate::outcome::Outcome;
+use crate::outcome::{Hair, Issued, Outcome};
+use box_range::{Tightened, tighten};
 use coord_model::{Choice, NoMemory};
-use margin_rows::{Instance, cost, loose_row, lower_cost, lowest_choice, strict_ok, strict_row};
+use margin_rows::{Instance, Ranges, cost, least_gap, lower_cost, strict_least, strict_row};
 use std::alloc::Global;
 
-/// What the coordination comes to where each relay has one pickup step and one dial step.
+/// The least gap that is taken, in weighted microseconds, where the study's own is less.
+const LEAST_GAP: u64 = 1_000;
+
+/// What the coordination comes to.
 pub fn decide(alloc: Global, inst: &Instance) -> Result<Outcome, NoMemory>
-    requires { IsBuilt inst.now.study }
+    requires { ¬ (HasManyPickups inst.now) }
     ensures decided { IfOk result (λ outcome. IsTrueOf inst.now (outcome_data outcome)) }
     ensures printable { IfOk result (λ outcome. IsSheet inst.now.study (sheet_of (outcome_data outcome))) }
 {
-    let Some(choice) = lowest_choice(alloc, inst)? else {
-        return Ok(Outcome::NoSettings);
-    };
-    Ok(judge(inst, choice))
+    let mut ranges = Ranges::first(alloc, inst)?;
+    match tighten(inst, &mut ranges) {
+        Tightened::Emptied => Ok(Outcome::NoSettings),
+        Tightened::Tight => judge(alloc, inst, ranges.lowest()?),
+    }
 }
 
-/// What it comes to where this is the one choice.
-fn judge(inst: &Instance, choice: Choice) -> Outcome
-    requires built { IsBuilt inst.now.study }
-    requires first_box { IsInFirstBox inst.now (choice_data choice) }
+/// What it comes to where these are the lowest settings of the tight box.
+fn judge(alloc: Global, inst: &Instance, lowest: Choice) -> Result<Outcome, NoMemory>
+    requires one { ¬ (HasManyPickups inst.now) }
+    requires tight { AreLowestTight inst.now (choice_data lowest) }
+    ensures decided { IfOk result (λ outcome. IsTrueOf inst.now (outcome_data outcome)) }
+    ensures printable { IfOk result (λ outcome. IsSheet inst.now.study (sheet_of (outcome_data outcome))) }
+{
+    let bound = lower_cost(inst, &lowest);
+    match first_unmet(inst, &lowest) {
+        Some(row) => {
+            let issued = issue(alloc, inst, &lowest)?;
+            let hair = Hair { choice: lowest, row };
+            Ok(weigh(inst, issued, hair, bound))
+        }
+        None => {
+            let cost = cost(inst, &lowest);
+            let issued = Issued { choice: lowest, cost };
+            Ok(Outcome::Closed { issued, bound })
+        }
+    }
+}
+
+/// The strict-least settings with the pickups of these, and their cost. `None`: no settings with these pickups strictly
+/// meet every row.
+fn issue(alloc: Global, inst: &Instance, lowest: &Choice) -> Result<Option<Issued>, NoMemory>
+    requires { IsInFirstBox inst.now (choice_data lowest.now) }
+    ensures { IfOk result (λ found. IsIssuedOf inst.now (choice_data lowest.now).pickup (option_map issued_data found)) }
+{
+    let Some(choice) = strict_least(alloc, inst, lowest.pickup.as_slice())? else {
+        return Ok(None);
+    };
+    let cost = cost(inst, &choice);
+    Ok(Some(Issued { choice, cost }))
+}
+
+/// The ending for what is issued: closed where it costs at most the gap more than the bound, else a hairline.
+fn weigh(inst: &Instance, issued: Option<Issued>, hair: Hair, bound: u64) -> Outcome
+    requires undecided { IsUndecided inst.now (option_map issued_data issued) (hair_data hair) bound }
     ensures decided { IsTrueOf inst.now (outcome_data result) }
     ensures printable { IsSheet inst.now.study (sheet_of (outcome_data result)) }
 {
-    if !loose_ok(inst, &choice) {
-        return Outcome::NoSettings;
-    }
-    let bound = lower_cost(inst, &choice);
-    if strict_ok(inst, &choice) {
-        let cost = cost(inst, &choice);
-        return Outcome::Closed {
-            choice,
-            cost,
+    let close = bound + gap(inst);
+    match issued {
+        Some(issued) if issued.cost <= close => Outcome::Closed { issued, bound },
+        issued => Outcome::Hairline {
+            issued,
+            hair,
             bound,
-        };
+        },
     }
-    let row = first_unmet(inst, &choice);
-    Outcome::Hairline { choice, row, bound }
 }
 
-/// Whether the choice loosely meets every row.
-fn loose_ok(inst: &Instance, choice: &Choice) -> bool
+/// The gap up to which a cost may lie above the bound, in weighted microseconds.
+fn gap(inst: &Instance) -> u64
+    ensures exact { IsGap inst.now result }
+    ensures small { result < 1000000000000000 }
+{
+    least_gap(inst).max(LEAST_GAP)
+}
+
+/// The first row that the choice does not strictly meet. `None`: it strictly meets every row.
+fn first_unmet(inst: &Instance, choice: &Choice) -> Option<u16>
     requires { IsInFirstBox inst.now (choice_data choice.now) }
-    ensures met { IsTrue result → All (MeetsLoosely inst.now (choice_data choice.now)) (rows_in inst.now) }
-    ensures kept { IsAllowed inst.now.study inst.now.currents (choice_data choice.now) → IsTrue result }
+    ensures unmet { IfSome result (IsFirstUnmet inst.now (choice_data choice.now)) }
+    ensures met { IsNone result → All (MeetsStrictly inst.now (choice_data choice.now)) (rows_in inst.now) }
 {
     for row in 0..inst.rows().len() as u16 {
-        if loose_row(inst, choice, row) < 0 {
-            return false;
-        }
-    }
-    true
-}
-
-/// The first row that the choice does not strictly meet.
-fn first_unmet(inst: &Instance, choice: &Choice) -> u16
-    requires first_box { IsInFirstBox inst.now (choice_data choice.now) }
-    requires some { ¬ (All (MeetsStrictly inst.now (choice_data choice.now)) (rows_in inst.now)) }
-    ensures is_row { result < length (rows_in inst.now) }
-    ensures unmet { AtRow inst.now result (λ r. ¬ MeetsStrictly inst.now (choice_data choice.now) r) }
-    ensures before { (earlier : ℕ) → earlier < result → AtRow inst.now earlier (MeetsStrictly inst.now (choice_data choice.now)) }
-{
-    let rows = inst.rows().len() as u16;
-    for row in 0..rows {
         if strict_row(inst, choice, row) < 0 {
-            return row;
+            return Some(row);
         }
     }
-    unreachable!()
+    None
 }

@@ -7,7 +7,6 @@ mod decide;
 mod fault_line;
 mod inputs;
 mod outcome;
-mod pairs;
 mod printing;
 mod refusal;
 mod refusal_line;

@@ -42,10 +42,10 @@ pub enum InputsRefusal {
 /// Why a case comes to no ending.
 #[derive(Clone, Copy)]
 pub enum CaseRefusal {
-    /// Several pickup or dial steps are not built yet.
-    StepsNotBuilt,
     /// There are more than 4,096 rows.
     TooManyRows,
+    /// Several pickup steps of a relay are not built yet.
+    PickupsNotBuilt,
 }
 
 /// Why `solve` comes to no ending.

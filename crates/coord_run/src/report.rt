@@ -2,12 +2,14 @@
 ghost use Rattle.std.specs.Prelude.{◌≡◌, ◌<◌, ◌++◌, length, IfOk, OnOk};
 ghost use Rattle.coord_model.specs.Choice.{choice_data};
 ghost use Rattle.coord_model.specs.StudyData.{study_data};
-ghost use Rattle.coord_run.specs.Outcome.{IsTrueOf, outcome_data};
+ghost use Rattle.std.specs.Option.{option_map};
+ghost use Rattle.coord_run.specs.Ending.{IsTrueOf};
+ghost use Rattle.coord_run.specs.Outcome.{outcome_data};
 ghost use Rattle.coord_run.specs.Report.{ending_line, fault_name, relay_name, report_text, row_margins, row_names, row_text_at};
 ghost use Rattle.margin_rows.specs.Case.{rows_in};
 ghost use Rattle.margin_rows.specs.FirstBox.{IsInFirstBox};
 
-use crate::outcome::Outcome;
+use crate::outcome::{Issued, Outcome};
 use coord_model::{Choice, NoMemory, Study};
 use coord_text::{push_number, push_signed};
 use margin_rows::{Instance, loose_row, strict_row};
@@ -20,14 +22,30 @@ pub fn report_bytes(alloc: Global, inst: &Instance, outcome: &Outcome) -> Result
     ensures { IfOk result (λ bytes. bytes.items ≡ report_text inst.now (outcome_data outcome.now)) }
 {
     match outcome {
-        Outcome::Closed { cost, bound, .. } => ending_bytes(alloc, b"closed", Some(*cost), *bound),
+        Outcome::Closed { issued, bound } => {
+            ending_bytes(alloc, b"closed", Some(issued.cost), *bound)
+        }
         Outcome::NoSettings => Ok(Vec::from_slice(alloc, b"no settings boxes 1\n")?),
-        Outcome::Hairline { choice, row, bound } => {
-            let mut out = ending_bytes(alloc, b"hairline", None, *bound)?;
-            push_row(&mut out, inst, choice, *row)?;
-            push_relay_lines(&mut out, inst.study(), choice)?;
+        Outcome::Hairline {
+            issued,
+            hair,
+            bound,
+        } => {
+            let mut out = ending_bytes(alloc, b"hairline", cost_of(issued), *bound)?;
+            push_row(&mut out, inst, &hair.choice, hair.row)?;
+            push_relay_lines(&mut out, inst.study(), &hair.choice)?;
             Ok(out)
         }
+    }
+}
+
+/// The cost of what is issued, if anything is.
+fn cost_of(issued: &Option<Issued>) -> Option<u64>
+    ensures { result ≡ option_map (λ i. i.cost) issued.now }
+{
+    match issued {
+        Some(issued) => Some(issued.cost),
+        None => None,
     }
 }
 
@@ -115,7 +133,7 @@ fn fault_name(study: &Study, fault: u16) -> &[u8]
 }
 
 /// The name of a relay, by its number.
-pub fn relay_name(study: &Study, relay: u16) -> &[u8]
+fn relay_name(study: &Study, relay: u16) -> &[u8]
     ensures { result.now ≡ relay_name (study_data study.now) relay }
 {
     match study.relays.get(usize::from(relay)) {

@@ -1,24 +1,26 @@
 //! From a study and its currents to the texts that are written.
-ghost use Rattle.std.specs.Prelude.{◌≡◌, IfOk, IfErr};
-ghost use Rattle.std.specs.List.{list_any};
+ghost use Rattle.std.specs.Prelude.{◌≡◌, ◌↔◌, ℕ, IfOk, IfErr, IsTrue};
+ghost use Rattle.std.specs.Option.{option_map};
 ghost use Rattle.coord_model.specs.Limits.{FitsCurrents, FitsStudy};
 ghost use Rattle.coord_model.specs.StudyData.{entries_of, study_data};
 ghost use Rattle.coord_run.specs.Names.{names_data};
-ghost use Rattle.coord_run.specs.Outcome.{IsTrueOf, outcome_data, outcome_status, sheet_of};
+ghost use Rattle.coord_run.specs.Ending.{IsTrueOf};
+ghost use Rattle.coord_run.specs.Outcome.{issued_data, outcome_data, outcome_status, sheet_of, sheet_with};
 ghost use Rattle.coord_run.specs.Settlement.{IsSettlementOf};
 ghost use Rattle.coord_run.specs.Solve.{CaseCause};
 ghost use Rattle.coord_run.specs.Stops.{StopsFor};
-ghost use Rattle.coord_run.specs.Steps.{IsBuilt, has_steps};
+ghost use Rattle.coord_run.specs.Steps.{HasManyPickups, HasTwoSteps, SpansTwo};
 ghost use Rattle.margin_rows.specs.Case.{case_of};
+ghost use Rattle.margin_rows.specs.FirstBox.{HasEmptyFirstBox};
 ghost use Rattle.settings_sheet.specs.SheetText.{IsSheet, sheet_data};
 
 use crate::decide::decide;
-use crate::outcome::Outcome;
+use crate::outcome::{Issued, Outcome};
 use crate::refusal::{CaseRefusal, Stop};
 use crate::refusal_line::file_line;
 use crate::report::report_bytes;
 use crate::words::Names;
-use coord_model::{Currents, Ending, NoMemory, Relay, Study};
+use coord_model::{Currents, Ending, NoMemory, Study};
 use margin_rows::{BuildFault, Instance, build};
 use settings_sheet::{Sheet, sheet_bytes};
 use std::alloc::Global;
@@ -45,10 +47,8 @@ pub fn settle(
     ensures settled { IfOk result (IsSettlementOf (names_data names.now) (case_of study currents)) }
     ensures stopped { IfErr result (λ stop. StopsFor stop (CaseCause (case_of study currents))) }
 {
-    if have_steps(study.relays.as_slice()) {
-        return Err(Stop::Refused(CaseRefusal::StepsNotBuilt));
-    }
     match build(alloc, study, currents) {
+        Ok(inst) if has_many_pickups(&inst) => Err(Stop::Refused(CaseRefusal::PickupsNotBuilt)),
         Ok(inst) => Ok(texts(alloc, names, &inst)?),
         Err(BuildFault::TooManyRows { .. }) => Err(Stop::Refused(CaseRefusal::TooManyRows)),
         Err(BuildFault::NoMemory) => Err(Stop::NoMemory),
@@ -57,7 +57,7 @@ pub fn settle(
 
 /// The texts of what an instance comes to.
 fn texts(alloc: Global, names: &Names<'_>, inst: &Instance) -> Result<Settlement, NoMemory>
-    requires { IsBuilt inst.now.study }
+    requires { ¬ (HasManyPickups inst.now) }
     ensures { IfOk result (IsSettlementOf (names_data names.now) inst.now) }
 {
     let outcome = decide(alloc, inst)?;
@@ -78,26 +78,27 @@ fn sheet_of(outcome: Outcome) -> Sheet
     ensures { sheet_data result ≡ sheet_of (outcome_data outcome) }
 {
     match outcome {
-        Outcome::Closed {
-            choice,
-            cost,
+        Outcome::Closed { issued, bound } => sheet(Ending::Closed, Some(issued), Some(bound)),
+        Outcome::NoSettings => sheet(Ending::NoSettings, None, None),
+        Outcome::Hairline { issued, bound, .. } => sheet(Ending::Hairline, issued, Some(bound)),
+    }
+}
+
+/// The sheet of an ending, of what is issued and of a bound.
+fn sheet(ending: Ending, issued: Option<Issued>, bound: Option<u64>) -> Sheet
+    ensures { sheet_data result ≡ sheet_with ending (option_map issued_data issued) bound }
+{
+    match issued {
+        Some(issued) => Sheet {
+            ending,
+            cost: Some(issued.cost),
             bound,
-        } => Sheet {
-            ending: Ending::Closed,
-            cost: Some(cost),
-            bound: Some(bound),
-            choice: Some(choice),
+            choice: Some(issued.choice),
         },
-        Outcome::NoSettings => Sheet {
-            ending: Ending::NoSettings,
+        None => Sheet {
+            ending,
             cost: None,
-            bound: None,
-            choice: None,
-        },
-        Outcome::Hairline { bound, .. } => Sheet {
-            ending: Ending::Hairline,
-            cost: None,
-            bound: Some(bound),
+            bound,
             choice: None,
         },
     }
@@ -110,20 +111,50 @@ fn status_of(outcome: &Outcome) -> u8
     match outcome {
         Outcome::Closed { .. } => 0,
         Outcome::NoSettings => 3,
-        Outcome::Hairline { .. } => 7,
+        Outcome::Hairline {
+            issued: Some(_), ..
+        } => 6,
+        Outcome::Hairline { issued: None, .. } => 7,
     }
 }
 
-/// Whether a relay has several pickup steps or several dial steps.
-fn have_steps(relays: &[Relay]) -> bool
-    ensures { result ≡ list_any has_steps relays.now }
+/// Whether some relay has several pickup steps in the first box, and none has no step.
+fn has_many_pickups(inst: &Instance) -> bool
+    ensures { IsTrue result ↔ HasManyPickups inst.now }
 {
-    relays.iter().any(has_steps)
+    !lacks_pickups(inst) && has_two_pickups(inst)
 }
 
-/// Whether the relay has several pickup steps or several dial steps.
-fn has_steps(relay: &Relay) -> bool
-    ensures { result ≡ has_steps relay.now }
+/// Whether some relay has no pickup step in the first box.
+fn lacks_pickups(inst: &Instance) -> bool
+    ensures { IsTrue result ↔ HasEmptyFirstBox inst.now }
 {
-    relay.plug_count > 1 || relay.dial_count > 1
+    for relay in 0..inst.study().relays.len() as u16 {
+        if inst.first_pickups(relay).is_none() {
+            return true;
+        }
+    }
+    false
+}
+
+/// Whether some relay has two pickup steps in the first box.
+fn has_two_pickups(inst: &Instance) -> bool
+    ensures { IsTrue result ↔ ((relay : ℕ) × HasTwoSteps inst.now relay) }
+{
+    for relay in 0..inst.study().relays.len() as u16 {
+        if has_two(inst.first_pickups(relay)) {
+            return true;
+        }
+    }
+    false
+}
+
+/// Whether a span has two steps.
+fn has_two(span: Option<(u16, u16)>) -> bool
+    ensures { IsTrue result ↔ SpansTwo span }
+{
+    match span {
+        Some((low, high)) => low < high,
+        None => false,
+    }
 }

@@ -116,8 +116,8 @@ fn case_line(alloc: Global, refusal: CaseRefusal) -> Result<Vec<u8>, NoMemory>
     ensures { IfOk result (λ line. line.items ≡ case_text refusal) }
 {
     match refusal {
-        CaseRefusal::StepsNotBuilt => Ok(Vec::from_slice(alloc, b"not built: steps\n")?),
         CaseRefusal::TooManyRows => too_many_line(alloc, What::Rows, 4_096),
+        CaseRefusal::PickupsNotBuilt => Ok(Vec::from_slice(alloc, b"not built: pickups\n")?),
     }
 }
 
@@ -126,7 +126,7 @@ fn case_status(refusal: CaseRefusal) -> u8
     ensures { result ≡ case_status refusal }
 {
     match refusal {
-        CaseRefusal::StepsNotBuilt => 21,
         CaseRefusal::TooManyRows => 15,
+        CaseRefusal::PickupsNotBuilt => 21,
     }
 }

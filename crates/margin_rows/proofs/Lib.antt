@@ -3,6 +3,7 @@ pub mod Costs
 pub mod Curves
 pub mod Dialled
 pub mod Filled
+pub mod Inside
 pub mod Kept
 pub mod Laws
 pub mod Listed

@@ -1,5 +1,5 @@
 -- A box (ours): for each relay a span of pickup steps and a span of dial steps.
-use Rattle.std.specs.Prelude.{◌≡◌, ℕ, suc, ◌<◌, ◌≤◌, ◌↔◌, List, length, slice_get, slice_index, IfSome, IsSomeAnd}
+use Rattle.std.specs.Prelude.{◌≡◌, ℕ, suc, ◌<◌, ◌≤◌, ◌↔◌, List, length, map, slice_get, slice_index, IfSome, IsSomeAnd}
 use Rattle.std.proofs.Common.{set}
 use Rattle.coord_model.specs.Choice.{Settings}
 use Rattle.margin_rows.specs.Case.{Case}
@@ -35,6 +35,11 @@ pub record AreIn (spans : List Steps) (steps : List ℕ) : Type 0 where
 pub record LiesIn (box : Box) (settings : Settings) : Type 0 where
   pub pickup : AreIn box.pickup settings.pickup
   pub dial : AreIn box.dial settings.dial
+
+-- the settings have the lowest step of each span
+pub record AreLowest (box : Box) (settings : Settings) : Type 0 where
+  pub pickup : settings.pickup ≡ map (λ span. span.low) box.pickup
+  pub dial : settings.dial ≡ map (λ span. span.low) box.dial
 
 -- the relay has this dial step
 abbrev pub IsDialStep : Case → ℕ → ℕ → Type 0

@@ -1,5 +1,5 @@
 //! Boxes: for each relay a span of pickup steps and a span of dial steps.
-ghost use Rattle.std.specs.Prelude.{◌≡◌, ℕ, ◌<◌, ◌≤◌, ◌↔◌, length, slice_get, IfOk, IfSome, IsTrue, IsSomeAnd};
+ghost use Rattle.std.specs.Prelude.{◌≡◌, ℕ, ◌<◌, ◌≤◌, ◌↔◌, length, map, slice_get, IfOk, IfSome, IsTrue, IsSomeAnd};
 ghost use Rattle.coord_model.specs.Choice.{choice_data};
 ghost use Rattle.margin_rows.specs.Box.{IsShownAs, IsIn, AreIn, IsDialStep, LiesIn, FitsBox, IsFirstBox, with_pickup, with_dial};
 ghost use Rattle.margin_rows.specs.Case.{Case, FitsCase};
@@ -28,7 +28,7 @@ impl Model for Ranges {
 }
 
 impl Ranges {
-    ghost use Rattle.margin_rows.specs.Box.{IsShownAs, LiesIn, IsFirstBox, with_pickup, with_dial};
+    ghost use Rattle.margin_rows.specs.Box.{AreLowest, IsShownAs, LiesIn, IsFirstBox, with_pickup, with_dial};
 
     /// The first box: each pickup step that senses the currents that count and clears the load, and each dial step.
     pub fn first(alloc: Global, inst: &Instance) -> Result<Ranges, NoMemory>
@@ -80,6 +80,16 @@ impl Ranges {
         all_in(&self.pickup, &choice.pickup) && all_in(&self.dial, &choice.dial)
     }
 
+    /// The choice of the lowest step of each span.
+    pub fn lowest(&self) -> Result<Choice, NoMemory>
+        ensures { IfOk result (λ choice. AreLowest self.now (choice_data choice)) }
+    {
+        Ok(Choice {
+            pickup: lows(&self.pickup)?,
+            dial: lows(&self.dial)?,
+        })
+    }
+
     /// An equal box.
     pub fn copy(&self) -> Result<Ranges, NoMemory>
         ensures { IfOk result (λ ranges. ranges ≡ self.now) }
@@ -118,6 +128,17 @@ impl Ranges {
         upper.set_pickup(relay, high.low, high.past);
         Ok((lower, upper))
     }
+}
+
+/// The lowest step of each span.
+fn lows(spans: &Vec<Steps>) -> Result<Vec<u16>, NoMemory>
+    ensures { IfOk result (λ steps. steps.items ≡ map (λ span. span.low) spans.now.items) }
+{
+    let mut steps = Vec::new(*spans.allocator());
+    for span in spans {
+        steps.push(span.low)?;
+    }
+    Ok(steps)
 }
 
 /// Whether there is a step for each span, and lies in it.
