@@ -1,3 +1,4 @@
 pub mod EndLaws
+pub mod EndingLaws
 pub mod ReadingLaws
 pub mod TightLaws

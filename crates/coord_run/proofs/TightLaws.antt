@@ -1,31 +1,43 @@
 -- The lowest settings of the tight box, where each relay has one pickup step in the first box.
 use Rattle.std.specs.Prelude.{slice_get, slice_index}
-use Rattle.std.specs.List.{All, map, sum_by}
+use Rattle.std.specs.List.{All, Contains, sum_by}
 use Rattle.std.specs.Option.{IfSome, option_map_or}
 use Rattle.std.proofs.Common.{◌≡◌, ℕ, ◌+◌, ◌*◌, ◌<◌, ◌≤◌, List, length, get_or, Some, None, Option, arith, refl, sym, ap, ◌∙◌, subst, inl, inr}
 use Rattle.std.proofs.Math.Nat.{mul-le-mul_left, mul-le-mul_right}
 use Rattle.std.proofs.lemmas.Bool.{cases_eq, cases_lt}
-use Rattle.std.proofs.lemmas.List.{ext_get_or, get_or-map, length-map}
+use Rattle.std.proofs.lemmas.List.{ext_get_or, get_or-map, get_or_past, length-map}
 use Rattle.std.proofs.lemmas.List.Elements.{Contains-get_or}
-use Rattle.std.proofs.lemmas.Option.{slice_get_cases, slice_get-get_or}
-use Rattle.box_range.specs.Drops.{CanMeet, Drop, Drops, IsDroppable, IsTight, MeetsAllLoosely}
-use Rattle.box_range.specs.Kinds.{span_at, spans_of}
+use Rattle.std.proofs.lemmas.List.Sums.{sum_by-le-sum_by}
+use Rattle.box_range.specs.Drops.{CanMeet, IsTight, MeetsAllLoosely}
+use Rattle.box_range.specs.Kinds.{HasEmptySpan, Side, end_of, span_at, spans_of, step_of}
+use Rattle.box_range.specs.Kinds as side
+use Rattle.box_range.specs.declared.kind.Kind.{Kind}
 use Rattle.box_range.specs.declared.kind.Kind.TheVariants.{Pickup, Dial}
 use Rattle.box_range.proofs.Order.{drops_keep, drops_within}
-use Rattle.box_range.proofs.Spans.{has_steps, lies, lies_at}
+use Rattle.box_range.proofs.Spans.{each_some, has_span, has_steps, lies, lies_at, no_span, span_has}
 use Rattle.box_range.proofs.Within.{IsWithin, lies_within}
-use Rattle.coord_model.specs.Allowed.{AreOnSteps, IsAllowed, IsOnSteps, IsSensible, dial_of}
+use Rattle.coord_model.specs.Allowed.{IsAllowed, dial_of}
 use Rattle.coord_model.specs.Choice.{Settings}
-use Rattle.coord_model.specs.Cost.{CostsAtLeast, weight_of, weighted_sum}
+use Rattle.coord_model.specs.Cost.{CostsAtLeast, CostsAtMost, weight_of, weighted_sum}
+use Rattle.coord_model.specs.Rows.{terms_of}
+use Rattle.coord_model.specs.Time.{dial_at}
 use Rattle.coord_model.specs.declared.study.Relay.{Relay}
-use Rattle.coord_run.specs.Ending.{AreLowestTight, IsBelowAll}
+use Rattle.coord_model.specs.declared.study.Row.{Row}
+use Rattle.coord_model.specs.declared.study.Term.{Term}
+use Rattle.coord_run.specs.Ending.{AreLowestTight, HasNoSettings, IsBelowAll, IsIssued}
 use Rattle.coord_run.specs.Steps.{HasManyPickups}
 use Rattle.margin_rows.specs.Box.{AreLowest, Box, FitsBox, IsFirstBox, IsIn, LiesIn}
 use Rattle.margin_rows.specs.Case.{Case, FitsCase, rows_in}
 use Rattle.margin_rows.specs.FirstBox.{HasEmptyFirstBox, IsFirstStep, IsInFirstBox}
-use Rattle.margin_rows.specs.Least.{IsStrict, IsStrictLeast}
-use Rattle.margin_rows.specs.Margin.{MeetsLoosely, MeetsStrictly}
+use Rattle.margin_rows.specs.Least.{AreFirstPickups, IsStrict, IsStrictLeast, IsStrictLeastOf}
+use Rattle.margin_rows.specs.Margin.{MeetsLoosely, MeetsStrictly, greatest_ps, interval_ps, least_ps}
+use Rattle.margin_rows.specs.Price.{cost_of}
+use Rattle.margin_rows.specs.Times.{time_at}
+use Rattle.margin_rows.specs.declared.span.Steps.{Steps}
 use Rattle.margin_rows.proofs.Boxed.{allowed_in_first_box, allowed_meets, pickup_first, row_keeps, row_meets}
+use Rattle.margin_rows.proofs.Inside.{box_lies_first, first_box_holds}
+use Rattle.margin_rows.proofs.Listed.{row_facts}
+use Rattle.margin_rows.proofs.Spanned.{first_box_fits}
 
 -- a row that is strictly met is loosely met
 pub strict_is_loose : (case : Case) (settings : Settings) → FitsCase case → IsInFirstBox case settings → All (MeetsStrictly case settings) (rows_in case) → MeetsAllLoosely case settings
@@ -73,20 +85,34 @@ meets_lower case a b row same backup primary meets =
         ap (λ d. option_map_or (λ relay. dial_at relay d) (slice_get case.study.relays row.backup) 0 * upper) backup in
     omega (arith, here, slower, later)
 
+-- the strict-least settings of pickups are issued
+pub issued_is : (case : Case) (pickups : List ℕ) (settings : Settings) (cost : ℕ) → FitsCase case → IsStrictLeast case pickups settings → IsInFirstBox case settings
+    → cost ≡ cost_of case settings → CostsAtMost case.study case.currents settings cost
+    → (settings.pickup ≡ pickups) × IsIssued case (record { settings = settings; cost = cost })
+issued_is case pickups settings cost fits least inside cost_is at_most = (
+  least.strict.same_pickups,
+  record {
+    allowed = strict_is_allowed case settings fits inside least.strict.met;
+    least = subst (λ ps. IsStrictLeast case ps settings) (sym least.strict.same_pickups) least;
+    cost_is = cost_is;
+    at_most = at_most;
+  },
+)
+
 -- what is known of the lowest settings of the tight box
 module _ (case : Case) (fits : FitsCase case) (one : (many : HasManyPickups case) → ⊥) (lowest : Settings) (tight : AreLowestTight case lowest) where
   is_within : IsWithin tight.box tight.first
   is_within = drops_within case tight.first tight.box tight.drops
 
   lowest_at : (kind : Kind) (i : ℕ) → i < length (spans_of kind tight.box) → step_of kind lowest i ≡ (span_at kind tight.box i).low
-  lowest_at Pickup i below = ap (λ (xs : List ℕ). get_or xs i 0) tight.lowest.pickups ∙ get_or-map (λ (s : Steps). s.low) tight.box.pickup i no_span 0 below
-  lowest_at Dial i below = ap (λ (xs : List ℕ). get_or xs i 0) tight.lowest.dials ∙ get_or-map (λ (s : Steps). s.low) tight.box.dial i no_span 0 below
+  lowest_at Pickup i below = ap (λ (xs : List ℕ). get_or xs i 0) tight.lowest.pickup ∙ get_or-map (λ (s : Steps). s.low) tight.box.pickup i no_span 0 below
+  lowest_at Dial i below = ap (λ (xs : List ℕ). get_or xs i 0) tight.lowest.dial ∙ get_or-map (λ (s : Steps). s.low) tight.box.dial i no_span 0 below
 
   -- they lie in the tight box
   pub lies_tight : LiesIn tight.box lowest
   lies_tight = lies tight.box lowest
-    (ap (λ (xs : List ℕ). length xs) tight.lowest.pickups ∙ length-map (λ (s : Steps). s.low) tight.box.pickup)
-    (ap (λ (xs : List ℕ). length xs) tight.lowest.dials ∙ length-map (λ (s : Steps). s.low) tight.box.dial)
+    (ap (λ (xs : List ℕ). length xs) tight.lowest.pickup ∙ length-map (λ (s : Steps). s.low) tight.box.pickup)
+    (ap (λ (xs : List ℕ). length xs) tight.lowest.dial ∙ length-map (λ (s : Steps). s.low) tight.box.dial)
     (λ kind i below. rw (lowest_at kind i below) (record { from = omega arith; before = has_steps tight.box kind i tight.tight.steps below }))
 
   -- and in the first box

@@ -1,5 +1,5 @@
 //! What a coordination comes to where each relay has one pickup step in the first box.
-ghost use Rattle.std.specs.Prelude.{◌≡◌, ◌+◌, ◌<◌, ℕ, length, All, IfOk, IfSome, IsNone};
+ghost use Rattle.std.specs.Prelude.{◌≡◌, ◌+◌, ◌^◌, ◌<◌, ℕ, length, All, IfOk, IfSome, IsNone};
 ghost use Rattle.std.specs.Option.{option_map};
 ghost use Rattle.coord_model.specs.Choice.{choice_data};
 ghost use Rattle.coord_run.specs.Ending.{AreLowestTight, IsFirstUnmet, IsGap, IsIssuedOf, IsTrueOf, IsUndecided};
@@ -70,24 +70,32 @@ fn issue(alloc: Global, inst: &Instance, lowest: &Choice) -> Result<Option<Issue
 /// The ending for what is issued: closed where it costs at most the gap more than the bound, else a hairline.
 fn weigh(inst: &Instance, issued: Option<Issued>, hair: Hair, bound: u64) -> Outcome
     requires undecided { IsUndecided inst.now (option_map issued_data issued) (hair_data hair) bound }
+    requires bound { bound < 10 ^ 16 }
     ensures decided { IsTrueOf inst.now (outcome_data result) }
     ensures printable { IsSheet inst.now.study (sheet_of (outcome_data result)) }
 {
-    let close = bound + gap(inst);
-    match issued {
-        Some(issued) if issued.cost <= close => Outcome::Closed { issued, bound },
-        issued => Outcome::Hairline {
-            issued,
+    let Some(issued) = issued else {
+        return Outcome::Hairline {
+            issued: None,
             hair,
             bound,
-        },
+        };
+    };
+    if issued.cost <= bound + gap(inst) {
+        Outcome::Closed { issued, bound }
+    } else {
+        Outcome::Hairline {
+            issued: Some(issued),
+            hair,
+            bound,
+        }
     }
 }
 
 /// The gap up to which a cost may lie above the bound, in weighted microseconds.
 fn gap(inst: &Instance) -> u64
     ensures exact { IsGap inst.now result }
-    ensures small { result < 1000000000000000 }
+    ensures small { result < 10 ^ 16 }
 {
     least_gap(inst).max(LEAST_GAP)
 }

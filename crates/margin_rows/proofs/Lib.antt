@@ -12,6 +12,7 @@ pub mod Lowered
 pub mod Multiples
 pub mod Placed
 pub mod Places
+pub mod Primaries
 pub mod Raising
 pub mod Ran
 pub mod Reached

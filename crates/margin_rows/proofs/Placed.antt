@@ -17,6 +17,7 @@ use Rattle.coord_model.specs.StudyData.{StudyData}
 use Rattle.coord_model.specs.declared.study.Fault.{Fault}
 use Rattle.coord_model.specs.declared.study.Row.{Row}
 use Rattle.coord_model.specs.declared.study.Term.{Term}
+use Rattle.margin_rows.proofs.Primaries.{terms_at_few}
 use Rattle.margin_rows.specs.Case.{Case, rows_in, terms_in, AtRow, AtTerm}
 use Rattle.coord_model.specs.Enclosure.{Enclosure}
 use Rattle.margin_rows.specs.Margin.{margin}
@@ -50,24 +51,13 @@ at_row case row P Q R p q gives = go (slice_get (rows_in case) row) refl p q
 pub margin_sign : (backup primary interval : ℕ) → (pos 0 ≤ℤ margin backup primary interval) ↔ (primary + interval ≤ backup)
 margin_sign backup primary interval = (λ h. omega (arith, ints, h), λ h. omega (arith, ints, h))
 
--- a case has at most as many terms as places in its table
-pub terms_few : (case : Case) → length case.study.faults ≤ 256 → length case.study.relays ≤ 96 → length (terms_in case) ≤ 24576
-terms_few case faults relays =
-    let each : All (λ f. length (terms_at case.study case.currents f) ≤ length case.study.relays) (fault_numbers case.study) = λ k d below. at_fault (get_or (fault_numbers case.study) k d) in
-    let whole = sum_by-le (λ f. length (terms_at case.study case.currents f)) (length case.study.relays) (fault_numbers case.study) each in
-    let product : length case.study.faults * length case.study.relays ≤ 256 * 96 = mul-le (length case.study.faults) (length case.study.relays) 256 96 faults relays in
+-- a case has at most two terms for each fault
+pub terms_few : (case : Case) → FitsStudy case.study → length (terms_in case) ≤ 512
+terms_few case fits =
+    let each : All (λ f. length (terms_at case.study case.currents f) ≤ 2) (fault_numbers case.study) = λ k d below. terms_at_few case (get_or (fault_numbers case.study) k d) fits in
+    let whole = sum_by-le (λ f. length (terms_at case.study case.currents f)) 2 (fault_numbers case.study) each in
     let count : length (fault_numbers case.study) ≡ length case.study.faults = length-range_with_len 0 (length case.study.faults) in
-    omega (arith, length-flat_map (terms_at case.study case.currents) (fault_numbers case.study), rw count at whole, product)
-  where
-    at_fault : (f : ℕ) → length (terms_at case.study case.currents f) ≤ length case.study.relays
-    at_fault f =
-        omega (
-          arith,
-          length-map (filter (is_primary case.study case.currents f) (relay_numbers case.study)) (λ (p : ℕ). let t : Term = record { fault = f; relay = p } in t),
-          length-filter (is_primary case.study case.currents f) (relay_numbers case.study),
-          count_by-le-length (is_primary case.study case.currents f) (relay_numbers case.study),
-          length-range_with_len 0 (length case.study.relays),
-        )
+    omega (arith, length-flat_map (terms_at case.study case.currents) (fault_numbers case.study), rw count at whole, fits.fault_count)
 
 -- the row that the code reads
 pub row_read : (case : Case) (rows : List Row) (i row : ℕ) (d : Row) → rows ≡ rows_in case → i ≡ row → row < length (rows_in case) → slice_get (rows_in case) row ≡ Some (get_or rows i d)

@@ -18,6 +18,7 @@ use crate::price::PICOSECONDS;
 pub fn least_gap(inst: &Instance) -> u64
     ensures exact { IsLeastGap inst.now result }
     ensures only { (gap : ℕ) → IsLeastGap inst.now gap → gap ≡ result }
+    ensures small { result < 10 ^ 16 }
     ensures covers { (settings : Settings) → IsInFirstBox inst.now settings → cost_of inst.now settings ≤ lower_cost_of inst.now settings + result }
 {
     width_sum(inst).div_ceil(PICOSECONDS) as u64 + 1
@@ -26,7 +27,7 @@ pub fn least_gap(inst: &Instance) -> u64
 /// The sum over the terms of weight, last dial and greatest width, in weighted picoseconds.
 fn width_sum(inst: &Instance) -> u128
     ensures exact { IsWidthSum inst.now result }
-    ensures small { result ≤ 24576 * 16500000000000000000 }
+    ensures small { result ≤ 512 * 16500000000000000000 }
     ensures fits { FitsCase inst.now }
 {
     let mut sum: u128 = 0;

@@ -19,6 +19,8 @@ pub fn cost(inst: &Instance, choice: &Choice) -> u64
 
     ensures exact { result ≡ cost_of inst.now (choice_data choice.now) }
     ensures at_most { CostsAtMost inst.now.study inst.now.currents (choice_data choice.now) result }
+    ensures small { result < 10 ^ 16 }
+    ensures fits { FitsCase inst.now }
 {
     let (_least, greatest) = sums(inst, choice);
     greatest.div_ceil(PICOSECONDS) as u64
@@ -31,6 +33,8 @@ pub fn lower_cost(inst: &Instance, choice: &Choice) -> u64
 
     ensures exact { result ≡ lower_cost_of inst.now (choice_data choice.now) }
     ensures at_least { CostsAtLeast inst.now.study inst.now.currents (choice_data choice.now) result }
+    ensures small { result < 10 ^ 16 }
+    ensures fits { FitsCase inst.now }
 {
     let (least, _greatest) = sums(inst, choice);
     (least / PICOSECONDS) as u64
@@ -42,8 +46,8 @@ fn sums(inst: &Instance, choice: &Choice) -> (u128, u128)
 
     ensures least { result.0 ≡ least_sum inst.now (choice_data choice.now) }
     ensures greatest { result.1 ≡ greatest_sum inst.now (choice_data choice.now) }
-    ensures least_small { result.0 ≤ 24576 * 16500000000000000000 }
-    ensures greatest_small { result.1 ≤ 24576 * 16500000000000000000 }
+    ensures least_small { result.0 ≤ 512 * 16500000000000000000 }
+    ensures greatest_small { result.1 ≤ 512 * 16500000000000000000 }
     ensures fits { FitsCase inst.now }
 {
     let mut least: u128 = 0;

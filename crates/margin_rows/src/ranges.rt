@@ -34,6 +34,7 @@ impl Ranges {
     pub fn first(alloc: Global, inst: &Instance) -> Result<Ranges, NoMemory>
         ensures exact { IfOk result (IsFirstBox inst.now) }
         ensures fits { IfOk result (FitsBox inst.now) }
+        ensures study { IfOk result (λ _. FitsCase inst.now) }
     {
         Ok(Ranges {
             pickup: first_pickups(alloc, inst)?,
@@ -154,6 +155,7 @@ fn all_in(spans: &[Steps], steps: &[u16]) -> bool
 
 /// The pickup spans of the first box.
 fn first_pickups(alloc: Global, inst: &Instance) -> Result<Vec<Steps>, NoMemory>
+    ensures study { IfOk result (λ _. FitsCase inst.now) }
     ensures count { IfOk result (λ spans. length spans.items ≡ length inst.now.study.relays) }
     ensures each { IfOk result (λ spans. (i step : ℕ) → IfSome (slice_get spans.items i) (λ span. IsIn span step ↔ IsFirstStep inst.now i step)) }
 {

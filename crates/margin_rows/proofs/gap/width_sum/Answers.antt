@@ -7,7 +7,7 @@ use Rattle.margin_rows.proofs.gap.width_sum.Goals as goal
 
 pub overflow_cast-term-end : goal.overflow_cast-term-end
 overflow_cast-term-end c =
-    omega (arith, ap (λ (ts : List Term). length ts) c.terms.ensures.value, terms_few c.args.inst.now c.terms.ensures.fits.study.fault_count c.terms.ensures.fits.study.relay_count.at_most)
+    omega (arith, ap (λ (ts : List Term). length ts) c.terms.ensures.value, terms_few c.args.inst.now c.terms.ensures.fits.study)
 
 pub loop-term-init : goal.loop-term-init
 loop-term-init c = record { sum = no_sum c.args.inst.now; few = omega arith }
@@ -29,4 +29,4 @@ returns-clause-exact c =
 
 pub returns-clause-small : goal.returns-clause-small
 returns-clause-small c =
-    omega (arith, c.loop-term.invariant.few, c.loop-term.auto.term-end, ap (λ (ts : List Term). length ts) c.terms.ensures.value, terms_few c.args.inst.now c.terms.ensures.fits.study.fault_count c.terms.ensures.fits.study.relay_count.at_most)
+    omega (arith, c.loop-term.invariant.few, c.loop-term.auto.term-end, ap (λ (ts : List Term). length ts) c.terms.ensures.value, terms_few c.args.inst.now c.terms.ensures.fits.study)

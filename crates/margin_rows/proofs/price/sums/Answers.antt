@@ -8,7 +8,7 @@ use Rattle.margin_rows.proofs.price.sums.Goals as goal
 
 pub overflow_cast-term-end : goal.overflow_cast-term-end
 overflow_cast-term-end c =
-    omega (arith, ap (λ (ts : List Term). length ts) c.terms.ensures.value, terms_few c.args.inst.now c.terms.ensures.fits.study.fault_count c.terms.ensures.fits.study.relay_count.at_most)
+    omega (arith, ap (λ (ts : List Term). length ts) c.terms.ensures.value, terms_few c.args.inst.now c.terms.ensures.fits.study)
 
 pub loop-term-preserved : goal.loop-term-preserved
 loop-term-preserved c =
@@ -24,8 +24,8 @@ loop-term-preserved c =
 
 pub returns-clause-least_small : goal.returns-clause-least_small
 returns-clause-least_small c =
-    omega (arith, c.loop-term.invariant.least_few, c.loop-term.auto.term-end, ap (λ (ts : List Term). length ts) c.terms.ensures.value, terms_few c.args.inst.now c.terms.ensures.fits.study.fault_count c.terms.ensures.fits.study.relay_count.at_most)
+    omega (arith, c.loop-term.invariant.least_few, c.loop-term.auto.term-end, ap (λ (ts : List Term). length ts) c.terms.ensures.value, terms_few c.args.inst.now c.terms.ensures.fits.study)
 
 pub returns-clause-greatest_small : goal.returns-clause-greatest_small
 returns-clause-greatest_small c =
-    omega (arith, c.loop-term.invariant.greatest_few, c.loop-term.auto.term-end, ap (λ (ts : List Term). length ts) c.terms.ensures.value, terms_few c.args.inst.now c.terms.ensures.fits.study.fault_count c.terms.ensures.fits.study.relay_count.at_most)
+    omega (arith, c.loop-term.invariant.greatest_few, c.loop-term.auto.term-end, ap (λ (ts : List Term). length ts) c.terms.ensures.value, terms_few c.args.inst.now c.terms.ensures.fits.study)
