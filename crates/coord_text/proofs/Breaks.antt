@@ -1,10 +1,11 @@
 use Rattle.std.proofs.Common.{◌≡◌, ◌≢◌, subst, length-take-le, ℕ, ◌+◌, ◌<◌, ◌≤◌, ◌==◌, Bool, true, false, not, ◌&&◌, nat_lt, List, [], ◌∷◌, ◌++◌, length, take, drop, get_or, arith, refl, sym, ap, ◌∙◌, length-append}
-use Rattle.std.specs.List.{list_all}
+use Rattle.std.specs.List.{list_all, position_or_len}
 use Rattle.std.specs.Prelude.{if◌then◌else◌}
 use Rattle.std.proofs.Math.Seq.{take-append_seam}
 use Rattle.std.proofs.lemmas.Bool.Decides.{nat_tests}
 use Rattle.std.proofs.lemmas.List.{take-append-drop, drop_more}
 use Rattle.std.proofs.lemmas.List.Sums.{prefix_len_stops}
+use Rattle.coord_text.proofs.Digits.{same_parts}
 use Rattle.coord_text.specs.Lines.{IsLine, is_printable, line_len, next_of}
 use Rattle.coord_text.specs.declared.lines.NextLine.TheVariants.{End, TooLong, NoEnd, NotAscii, Line}
 
@@ -75,3 +76,25 @@ line_there left line rest is stands =
     let ended : (line_len left == length left) ≡ false = grind (arith, nat_tests) in
     let printed : list_all is_printable (take (line_len left) left) ≡ true = ap (list_all is_printable) front ∙ is.printable in
     all_passed (length left == 0) (nat_lt 2048 (line_len left)) (line_len left == length left) (list_all is_printable (take (line_len left) left)) (0 + line_len left) (length line) some short ended printed (omega (arith, ends))
+
+-- a word ends at the first byte that it doesn't have
+pub word_ends : (b : ℕ) (word rest : List ℕ) → list_all (λ c. not (c == b)) word ≡ true → position_or_len (λ c. c == b) (word ++ b ∷ rest) ≡ length word
+word_ends b [] rest h = let same : (b == b) ≡ true = grind (arith, nat_tests) in rw same refl
+word_ends b (c ∷ cs) rest h =
+    let parts = both_pass (not (c == b)) (list_all (λ c. not (c == b)) cs) h in
+    rw (parts.0, word_ends b cs rest parts.1) (omega arith)
+
+-- two texts that are cut at the same byte have the same parts
+pub same_cut : (b : ℕ) (x y r s : List ℕ) → list_all (λ c. not (c == b)) x ≡ true → list_all (λ c. not (c == b)) y ≡ true
+    → x ++ b ∷ r ≡ y ++ b ∷ s → (x ≡ y) × (r ≡ s)
+same_cut b x y r s of_x of_y same =
+    let long : length x ≡ length y = sym (word_ends b x r of_x) ∙ ap (position_or_len (λ c. c == b)) same ∙ word_ends b y s of_y in
+    let parts = same_parts x y (b ∷ r) (b ∷ s) long same in
+    (parts.0, ap (drop 1) parts.1)
+
+-- two texts that begin with a line begin with the same line
+pub same_first_line : (x y r s : List ℕ) → IsLine x → IsLine y → x ++ 10 ∷ r ≡ y ++ 10 ∷ s → (x ≡ y) × (r ≡ s)
+same_first_line x y r s of_x of_y same =
+    let long : length x ≡ length y = sym (line_ends x r of_x.printable) ∙ ap line_len same ∙ line_ends y s of_y.printable in
+    let parts = same_parts x y (10 ∷ r) (10 ∷ s) long same in
+    (parts.0, ap (drop 1) parts.1)

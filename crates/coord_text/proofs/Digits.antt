@@ -2,15 +2,16 @@ use Rattle.std.proofs.Common.{◌≡◌, ℕ, zero, suc, ◌+◌, ◌*◌, ◌/�
 use Rattle.std.specs.Char.{is_ascii_digit}
 use Rattle.std.specs.Fmt.{decimal}
 use Rattle.std.specs.List.{list_all}
-use Rattle.std.proofs.Math.Nat.{pow-succ', div-div-eq-div-mul, div-one, one-le-pow, pow-le-pow_right, mul-le-mul, lt-mul-div-succ}
+use Rattle.std.proofs.Math.Nat.{pow-succ', div-div-eq-div-mul, div-one, one-le-pow, pow-le-pow_right, mul-le-mul, lt-mul-div-succ, div-le_self}
 use Rattle.std.proofs.Math.Seq.{take-append_seam, drop-append-add}
 use Rattle.std.proofs.lemmas.Bool.Decides.{nat_tests}
+use Rattle.std.proofs.lemmas.Fmt.{decimal_by_steps, decimal_injective}
 use Rattle.std.proofs.lemmas.List.{append_cancel_left, get_or-append-add}
 use Rattle.std.proofs.lemmas.List.Folds.{list_all-append}
 use Rattle.coord_text.specs.Numbers.{low_digits, fixed}
 
 -- two joined texts whose fronts are equally long have the same parts
-pub same_parts : (x y r s : List ℕ) → length x ≡ length y → x ++ r ≡ y ++ s → (x ≡ y) × (r ≡ s)
+pub same_parts : {A : Type 0} (x y r s : List A) → length x ≡ length y → x ++ r ≡ y ++ s → (x ≡ y) × (r ≡ s)
 same_parts x y r s long same =
     let front : x ≡ y = sym (take-append_seam x r) ∙ ap (take (length x)) same ∙ ap (λ k. take k (y ++ s)) long ∙ take-append_seam y s in (
       front,
@@ -83,3 +84,26 @@ fixed_parts places n point word long is =
       ap (λ w. get_or w point 0) is ∙ ap (λ k. get_or (fixed places n) k 0) (there ∙ sym (add-zero (length whole))) ∙ get_or-append-add whole (46 ∷ low_digits places n) 0 0,
       ap (drop (point + 1)) is ∙ ap (λ k. drop (k + 1) (fixed places n)) there ∙ drop-append-add whole (46 ∷ low_digits places n) 1,
     )
+
+-- a test that each digit passes is passed by a number in digits
+pub decimal-pass : (p : ℕ → Bool) → ((b : ℕ) → b < 10 → p (48 + b) ≡ true) → (n : ℕ) → n < 2 ^ 64 → list_all p (decimal n) ≡ true
+decimal-pass p each n small =
+    decimal_by_steps (λ n digits. list_all p digits ≡ true)
+    (λ n one. rw (each n one) refl)
+    (λ n digits more front. let last : n % 10 < 10 = omega arith in rw (list_all-append p digits ((48 + n % 10) ∷ []), front, each (n % 10) last) refl)
+    n small
+
+-- and by a fixed-point number, where the point passes it too
+pub fixed-pass : (p : ℕ → Bool) → ((b : ℕ) → b < 10 → p (48 + b) ≡ true) → p 46 ≡ true → (places n : ℕ) → n < 2 ^ 64 → list_all p (fixed places n) ≡ true
+fixed-pass p each point places n small =
+    let front : n / 10 ^ places < 2 ^ 64 = omega (arith, div-le_self n (10 ^ places)) in
+    rw (list_all-append p (decimal (n / 10 ^ places)) (46 ∷ low_digits places n), decimal-pass p each (n / 10 ^ places) front, point, low_digits-pass p each places n) refl
+
+-- a fixed-point number spells one number
+pub same_fixed : (places m n : ℕ) → m < 2 ^ 64 → n < 2 ^ 64 → fixed places m ≡ fixed places n → m ≡ n
+same_fixed places m n of_m of_n same =
+    let point = length (decimal (m / 10 ^ places)) in
+    let here = fixed_parts places m point (fixed places m) (sym (length-fixed places m)) refl in
+    let there = fixed_parts places n point (fixed places m) (sym (length-fixed places m)) same in
+    let front = decimal_injective (m / 10 ^ places) (n / 10 ^ places) (omega (arith, div-le_self m (10 ^ places))) (omega (arith, div-le_self n (10 ^ places))) (sym here.0 ∙ there.0) in
+    same_number places m n front (sym here.2 ∙ there.2)

@@ -32,14 +32,14 @@ lowest_on_steps study fits = record {
   pickups = length-replicate (length study.relays) 0;
   dials = length-replicate (length study.relays) 0;
   steps = λ i. elim ((slice_get_cases study.relays i).1) [
-      inl found ↦
-      let fit = relay_fits study fits i found.0 found.1 found.3 in
-      let zero_is = get_or-replicate (length study.relays) i 0 0 found.1 in
-      subst (λ o. IfSome o (λ r. IsOnSteps r (slice_index (replicate (length study.relays) 0) i) (slice_index (replicate (length study.relays) 0) i))) (sym found.2)
-      (record {
-        pickup_step = subst (λ n. n < found.0.plug_count) (sym zero_is) fit.plug_count.at_least;
-        dial_step = subst (λ n. n < found.0.dial_count) (sym zero_is) fit.dial_count.at_least;
-      })
+    | inl found ↦
+        let fit = relay_fits study fits i found.0 found.1 found.3 in
+        let zero_is = get_or-replicate (length study.relays) i 0 0 found.1 in
+        subst (λ o. IfSome o (λ r. IsOnSteps r (slice_index (replicate (length study.relays) 0) i) (slice_index (replicate (length study.relays) 0) i))) (sym found.2)
+        (record {
+          pickup_step = subst (λ n. n < found.0.plug_count) (sym zero_is) fit.plug_count.at_least;
+          dial_step = subst (λ n. n < found.0.dial_count) (sym zero_is) fit.dial_count.at_least;
+        })
     | inr past ↦ subst (λ o. IfSome o (λ r. IsOnSteps r (slice_index (replicate (length study.relays) 0) i) (slice_index (replicate (length study.relays) 0) i))) (sym past.1) tt
   ];
 }
@@ -52,9 +52,21 @@ sheet_with study ending (Some cost) bound = record { ending = ending; cost = Som
 is_sheet_with : (study : StudyData) → FitsStudy study → (ending : Ending) (cost bound : Option ℕ)
     → CostGoesWith ending cost → BoundGoesWith ending bound → IsShort cost → IsShort bound → IsSheet study (sheet_with study ending cost bound)
 is_sheet_with study fits ending None bound cost_goes bound_goes cost_short bound_short = record {
-  cost_goes = cost_goes; bound_goes = bound_goes; cost_short = cost_short; bound_short = bound_short; issued = refl; on_steps = tt }
+  cost_goes = cost_goes;
+  bound_goes = bound_goes;
+  cost_short = cost_short;
+  bound_short = bound_short;
+  issued = refl;
+  on_steps = tt;
+}
 is_sheet_with study fits ending (Some cost) bound cost_goes bound_goes cost_short bound_short = record {
-  cost_goes = cost_goes; bound_goes = bound_goes; cost_short = cost_short; bound_short = bound_short; issued = refl; on_steps = lowest_on_steps study fits }
+  cost_goes = cost_goes;
+  bound_goes = bound_goes;
+  cost_short = cost_short;
+  bound_short = bound_short;
+  issued = refl;
+  on_steps = lowest_on_steps study fits;
+}
 
 -- the lines of that sheet
 lines_with : (study : StudyData) (ending : Ending) (cost bound : Option ℕ)
@@ -130,9 +142,9 @@ module _ (study : StudyData) (fits : FitsStudy study) (bytes left : List ℕ) wh
       ((codes "cost " ++ amount (any_cost ending)) ∷ (codes "bound " ++ amount (any_bound ending)) ∷ with.0) with.1 left split due.Cost refl
       (format_is_line, (ending_is_line ending, tt)) (λ other is. (format_is_line, (ending_is_line other.ending, tt))) (λ other is same. cc (ap length same))
       (λ other is line after parts rest stands.
-          let agree = endings_agree study other ending (line ∷ after) parts in
-          no_such other.cost rest is.cost_short (subst (λ e. CostGoesWith e other.cost) agree is.cost_goes)
-          (stands ∙ ap (λ l. l ++ 10 ∷ rest) (sym (ap (λ l. get_or l 2 []) parts)))) 3 refl
+      let agree = endings_agree study other ending (line ∷ after) parts in
+      no_such other.cost rest is.cost_short (subst (λ e. CostGoesWith e other.cost) agree is.cost_goes)
+      (stands ∙ ap (λ l. l ++ 10 ∷ rest) (sym (ap (λ l. get_or l 2 []) parts)))) 3 refl
 
   -- the fourth line is that of no bound that goes with the ending
   pub bound_stops : (ending : Ending) (cost : Option ℕ) → CostGoesWith ending cost → IsShort cost
@@ -147,6 +159,6 @@ module _ (study : StudyData) (fits : FitsStudy study) (bytes left : List ℕ) wh
       ((codes "bound " ++ amount (any_bound ending)) ∷ with.0) with.1 left split due.Bound refl
       (format_is_line, (ending_is_line ending, (cost_is_line cost short, tt))) (λ other is. (format_is_line, (ending_is_line other.ending, (cost_is_line other.cost is.cost_short, tt)))) (λ other is same. cc (ap length same))
       (λ other is line after parts rest stands.
-          let agree = endings_agree study other ending ((codes "cost " ++ amount cost) ∷ line ∷ after) parts in
-          no_such other.bound rest is.bound_short (subst (λ e. BoundGoesWith e other.bound) agree is.bound_goes)
-          (stands ∙ ap (λ l. l ++ 10 ∷ rest) (sym (ap (λ l. get_or l 3 []) parts)))) 4 refl
+      let agree = endings_agree study other ending ((codes "cost " ++ amount cost) ∷ line ∷ after) parts in
+      no_such other.bound rest is.bound_short (subst (λ e. BoundGoesWith e other.bound) agree is.bound_goes)
+      (stands ∙ ap (λ l. l ++ 10 ∷ rest) (sym (ap (λ l. get_or l 3 []) parts)))) 4 refl

@@ -33,7 +33,7 @@ peel (x ∷ xs) [] left of_xs of_ys same =
     absurd (omega (arith, ap length same, length-append ((x ++ 10 ∷ []) ++ text_of xs) left, length-append (x ++ 10 ∷ []) (text_of xs), length-append x (10 ∷ [])))
 peel (x ∷ xs) (y ∷ ys) left of_xs of_ys same =
     let cut : x ++ 10 ∷ (text_of xs ++ left) ≡ y ++ 10 ∷ text_of ys =
-        sym (append_assoc (x ++ 10 ∷ []) (text_of xs) left ∙ append_assoc x (10 ∷ []) (text_of xs ++ left)) ∙ same ∙ append_assoc y (10 ∷ []) (text_of ys) in
+    sym (append_assoc (x ++ 10 ∷ []) (text_of xs) left ∙ append_assoc x (10 ∷ []) (text_of xs ++ left)) ∙ same ∙ append_assoc y (10 ∷ []) (text_of ys) in
     let first = same_first_line x y (text_of xs ++ left) (text_of ys) of_xs.0 of_ys.0 cut in
     let tail = peel xs ys left of_xs.1 of_ys.1 first.1 in
     record { more = tail.more; parts = ap (λ l. l ∷ ys) (sym first.0) ∙ ap (λ l. x ∷ l) tail.parts; rest = tail.rest }

@@ -166,14 +166,24 @@ relay_is_line study relay fits name pickup dial on =
     let plug_whole : plug_at relay pickup / 10 ^ 2 < 10 ^ 5 = omega (arith, plug, div-le_self (plug_at relay pickup) (10 ^ 2)) in
     let dial_whole : dial_at relay dial / 10 ^ 3 < 10 ^ 5 = omega (arith, time, div-le_self (dial_at relay dial) (10 ^ 3)) in
     record {
-      short = omega (arith, short.0,
-      length-append (codes "relay ") (relay.name ++ (codes " plug " ++ (plug_words ++ (codes " dial " ++ dial_words)))),
-      length-append relay.name (codes " plug " ++ (plug_words ++ (codes " dial " ++ dial_words))),
-      length-append (codes " plug ") (plug_words ++ (codes " dial " ++ dial_words)),
-      length-append plug_words (codes " dial " ++ dial_words), length-append (codes " dial ") dial_words,
-      length-fixed 2 (plug_at relay pickup), length-fixed 3 (dial_at relay dial),
-      length-decimal-le 5 (plug_at relay pickup / 10 ^ 2) (omega arith) plug_whole (omega (arith, plug_whole)),
-      length-decimal-le 5 (dial_at relay dial / 10 ^ 3) (omega arith) dial_whole (omega (arith, dial_whole)));
-      printable = rw (list_all-append is_printable relay.name (codes " plug " ++ (plug_words ++ (codes " dial " ++ dial_words))), short.1,
-      list_all-append is_printable plug_words (codes " dial " ++ dial_words), plug_prints, dial_prints) refl;
+      short = omega (
+        arith,
+        short.0,
+        length-append (codes "relay ") (relay.name ++ (codes " plug " ++ (plug_words ++ (codes " dial " ++ dial_words)))),
+        length-append relay.name (codes " plug " ++ (plug_words ++ (codes " dial " ++ dial_words))),
+        length-append (codes " plug ") (plug_words ++ (codes " dial " ++ dial_words)),
+        length-append plug_words (codes " dial " ++ dial_words),
+        length-append (codes " dial ") dial_words,
+        length-fixed 2 (plug_at relay pickup),
+        length-fixed 3 (dial_at relay dial),
+        length-decimal-le 5 (plug_at relay pickup / 10 ^ 2) (omega arith) plug_whole (omega (arith, plug_whole)),
+        length-decimal-le 5 (dial_at relay dial / 10 ^ 3) (omega arith) dial_whole (omega (arith, dial_whole)),
+      );
+      printable = rw (
+        list_all-append is_printable relay.name (codes " plug " ++ (plug_words ++ (codes " dial " ++ dial_words))),
+        short.1,
+        list_all-append is_printable plug_words (codes " dial " ++ dial_words),
+        plug_prints,
+        dial_prints,
+      ) refl;
     }

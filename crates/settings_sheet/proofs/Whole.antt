@@ -33,9 +33,9 @@ words_line relay pickup dial =
 line_at : (study : StudyData) (settings : Settings) (i : ℕ) → i < length study.relays → relay_words_at study settings i ++ 10 ∷ [] ≡ relay_line_at study settings i
 line_at study settings i within =
     elim ((slice_get_cases study.relays i).1) [
-        inl found ↦ subst (λ o. option_map_or (λ r. relay_words r (slice_index settings.pickup i) (slice_index settings.dial i)) o [] ++ 10 ∷ []
-        ≡ option_map_or (λ r. relay_line r (slice_index settings.pickup i) (slice_index settings.dial i)) o []) (sym found.2)
-        (words_line found.0 (slice_index settings.pickup i) (slice_index settings.dial i))
+      | inl found ↦ subst (λ o. option_map_or (λ r. relay_words r (slice_index settings.pickup i) (slice_index settings.dial i)) o [] ++ 10 ∷ []
+          ≡ option_map_or (λ r. relay_line r (slice_index settings.pickup i) (slice_index settings.dial i)) o []) (sym found.2)
+          (words_line found.0 (slice_index settings.pickup i) (slice_index settings.dial i))
       | inr past ↦ absurd (omega (arith, past.0))
     ]
 

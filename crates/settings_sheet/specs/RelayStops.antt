@@ -40,7 +40,7 @@ pub record RelayStop (study : StudyData) (text : List ℕ) (line : ℕ) (kind : 
   pub parts : text ≡ text_of (first_lines study settings at) ++ left
   pub names : HasNamesBelow study (at + 1)
   pub no_such : IfSome (slice_get study.relays at) (λ relay. (pickup dial : ℕ) (rest : List ℕ) → IsOnSteps relay pickup dial
-    → left ≢ relay_words relay pickup dial ++ 10 ∷ rest)
+      → left ≢ relay_words relay pickup dial ++ 10 ∷ rest)
 
 -- the refusal names where the lines of the relays stop; want of memory says nothing
 abbrev pub IsRelayStop : StudyData → List ℕ → SheetRefusal → Type 0

@@ -19,7 +19,11 @@ pub fn read_format(left: &[u8]) -> Option<&[u8]>
     ensures no_such { IsNone result → (rest : List ℕ) → left.now ≢ codes "coord-sheet 1" ++ 10 ∷ rest }
 {
     let (line, rest) = split_line(left)?;
-    if line == b"coord-sheet 1".as_slice() { Some(rest) } else { None }
+    if line == b"coord-sheet 1".as_slice() {
+        Some(rest)
+    } else {
+        None
+    }
 }
 
 /// The ending, and what follows its line.
@@ -41,7 +45,11 @@ pub fn read_cost(left: &[u8], ending: Ending) -> Option<(Option<u64>, &[u8])>
 {
     let (word, rest) = read_labelled(left, b"cost ")?;
     let cost = amount_of(word)?;
-    if cost_goes_with(ending, cost) { Some((cost, rest)) } else { None }
+    if cost_goes_with(ending, cost) {
+        Some((cost, rest))
+    } else {
+        None
+    }
 }
 
 /// The bound in weighted microseconds, where it goes with the ending, and what follows its line.
@@ -54,7 +62,11 @@ pub fn read_bound(left: &[u8], ending: Ending) -> Option<(Option<u64>, &[u8])>
 {
     let (word, rest) = read_labelled(left, b"bound ")?;
     let bound = amount_of(word)?;
-    if bound_goes_with(ending, bound) { Some((bound, rest)) } else { None }
+    if bound_goes_with(ending, bound) {
+        Some((bound, rest))
+    } else {
+        None
+    }
 }
 
 /// What follows the last line.
@@ -63,7 +75,11 @@ pub fn read_end(left: &[u8]) -> Option<&[u8]>
     ensures no_such { IsNone result → (rest : List ℕ) → left.now ≢ codes "end" ++ 10 ∷ rest }
 {
     let (line, rest) = split_line(left)?;
-    if line == b"end".as_slice() { Some(rest) } else { None }
+    if line == b"end".as_slice() {
+        Some(rest)
+    } else {
+        None
+    }
 }
 
 /// The word behind the label that begins the first line.
@@ -90,7 +106,11 @@ fn ending_of(word: &[u8]) -> Option<Ending>
     if word == b"budget-spent".as_slice() {
         return Some(Ending::BudgetSpent);
     }
-    if word == b"hairline".as_slice() { Some(Ending::Hairline) } else { None }
+    if word == b"hairline".as_slice() {
+        Some(Ending::Hairline)
+    } else {
+        None
+    }
 }
 
 /// The number of at most 16 digits that the word spells, or `Some(None)` for `none`.

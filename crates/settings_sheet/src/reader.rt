@@ -31,6 +31,18 @@ pub fn read_sheet(alloc: Global, study: &Study, bytes: &[u8]) -> Result<Sheet, S
         → MatchResult result (λ read. sheet_data read ≡ sheet) (λ refusal. refusal ≡ SheetRefusal.NoMemory) }
     ensures stops { IfErr result (IsRefusalOf (study_data study.now) bytes.now) }
 {
+    sheet_in(alloc, study, bytes)
+}
+
+/// The sheet of the study whose text the bytes are, the only one.
+fn sheet_in(alloc: Global, study: &Study, bytes: &[u8]) -> Result<Sheet, SheetRefusal>
+    requires fits { FitsStudy (study_data study.now) }
+    ensures is { IfOk result (λ sheet. IsSheet (study_data study.now) (sheet_data sheet)) }
+    ensures said { IfOk result (λ sheet. bytes.now ≡ sheet_text (study_data study.now) (sheet_data sheet)) }
+    ensures only { IfOk result (λ read. (sheet : SheetData) → IsSheet (study_data study.now) sheet
+        → bytes.now ≡ sheet_text (study_data study.now) sheet → sheet_data read ≡ sheet) }
+    ensures stops { IfErr result (IsRefusalOf (study_data study.now) bytes.now) }
+{
     let (head, left) = read_head(bytes)?;
     let (choice, left) = read_settings(alloc, study, head.cost, left)?;
     read_close(left, end_line(study, &choice))?;
@@ -64,7 +76,8 @@ fn read_settings<'a>(
 /// The number of the last line.
 fn end_line(study: &Study, choice: &Option<Choice>) -> u32
     requires fits { FitsStudy (study_data study.now) }
-    ensures { result ≡ 5 + length (settings_lines (study_data study.now) (option_map choice_data choice.now)) }
+    ensures small { result < 2 ^ 16 }
+    ensures exact { result ≡ 5 + length (settings_lines (study_data study.now) (option_map choice_data choice.now)) }
 {
     match choice {
         Some(_) => study.relays.len() as u32 + 5,

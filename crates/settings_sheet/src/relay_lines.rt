@@ -117,10 +117,7 @@ fn word_len(words: &[u8]) -> usize
     ensures exact { result ≡ position_or_len (λ b. b == 32) words.now }
     ensures within { result ≤ length words.now }
 {
-    words
-        .iter()
-        .position(|b| *b == b' ')
-        .unwrap_or(words.len())
+    words.iter().position(|b| *b == b' ').unwrap_or(words.len())
 }
 
 /// The step at which a setting has the value. `None`: it is on no step.
@@ -135,5 +132,9 @@ fn step_at(first: u32, step: u32, count: u32, value: u64) -> Option<u16>
         return None;
     }
     let at = past / u64::from(step);
-    if at < u64::from(count) { Some(at as u16) } else { None }
+    if at < u64::from(count) {
+        Some(at as u16)
+    } else {
+        None
+    }
 }

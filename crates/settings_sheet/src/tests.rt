@@ -9,11 +9,13 @@ use crate::text::sheet_bytes;
 use coord_model::{CurveName, Ending, Line, Name, Relay, Study};
 use std::alloc::Global;
 
-const CLOSED: &[u8] = b"coord-sheet 1\nending closed\ncost 262500\nbound 262500\nrelay R1 plug 1.00 dial 0.250\nrelay R2 plug 1.00 dial 0.050\nend\n";
+const CLOSED: &[u8] =
+    b"coord-sheet 1\nending closed\ncost 262500\nbound 262500\nrelay R1 plug 1.00 dial 0.250\nrelay R2 plug 1.00 dial 0.050\nend\n";
 
 const NO_SETTINGS: &[u8] = b"coord-sheet 1\nending no-settings\ncost none\nbound none\nend\n";
 
-const NO_CHOICE: &[u8] = b"coord-sheet 1\nending budget-spent\ncost none\nbound 9999999999999999\nend\n";
+const NO_CHOICE: &[u8] =
+    b"coord-sheet 1\nending budget-spent\ncost none\nbound 9999999999999999\nend\n";
 
 /// A relay at the front of a line, with one plug of 1 A and 20 dials from 0.050 on.
 fn relay(name: Name, line: u16) -> Relay
@@ -130,18 +132,66 @@ fn names_the_first_line_that_stops(rt: HostRuntime) -> Result<(), SheetRefusal> 
         (b"coord-sheet 2\n", 1, SheetKind::Format),
         (b"coord-sheet 1\n", 2, SheetKind::Ending),
         (b"coord-sheet 1\nending open\n", 2, SheetKind::Ending),
-        (b"coord-sheet 1\nending closed\ncost none\n", 3, SheetKind::Cost),
-        (b"coord-sheet 1\nending closed\ncost 01\n", 3, SheetKind::Cost),
-        (b"coord-sheet 1\nending closed\ncost 10000000000000000\n", 3, SheetKind::Cost),
-        (b"coord-sheet 1\nending no-settings\ncost 1\n", 3, SheetKind::Cost),
-        (b"coord-sheet 1\nending hairline\ncost none\nbound none\n", 4, SheetKind::Bound),
-        (b"coord-sheet 1\nending no-settings\ncost none\nbound 1\n", 4, SheetKind::Bound),
-        (b"coord-sheet 1\nending hairline\ncost 1\nbound 1\nend\n", 5, SheetKind::Relay),
-        (b"coord-sheet 1\nending hairline\ncost 1\nbound 1\nrelay R1 plug 1.00 dial 0.260\n", 5, SheetKind::Relay),
-        (b"coord-sheet 1\nending hairline\ncost 1\nbound 1\nrelay R2 plug 1.00 dial 0.250\n", 5, SheetKind::Relay),
-        (b"coord-sheet 1\nending hairline\ncost 1\nbound 1\nrelay R1 plug 2.00 dial 0.250\n", 5, SheetKind::Relay),
-        (b"coord-sheet 1\nending hairline\ncost 1\nbound 1\nrelay R1 plug 1.00 dial 0.250\n", 6, SheetKind::Relay),
-        (b"coord-sheet 1\nending hairline\ncost none\nbound 1\nrelay R1 plug 1.00 dial 0.250\n", 5, SheetKind::End),
+        (
+            b"coord-sheet 1\nending closed\ncost none\n",
+            3,
+            SheetKind::Cost,
+        ),
+        (
+            b"coord-sheet 1\nending closed\ncost 01\n",
+            3,
+            SheetKind::Cost,
+        ),
+        (
+            b"coord-sheet 1\nending closed\ncost 10000000000000000\n",
+            3,
+            SheetKind::Cost,
+        ),
+        (
+            b"coord-sheet 1\nending no-settings\ncost 1\n",
+            3,
+            SheetKind::Cost,
+        ),
+        (
+            b"coord-sheet 1\nending hairline\ncost none\nbound none\n",
+            4,
+            SheetKind::Bound,
+        ),
+        (
+            b"coord-sheet 1\nending no-settings\ncost none\nbound 1\n",
+            4,
+            SheetKind::Bound,
+        ),
+        (
+            b"coord-sheet 1\nending hairline\ncost 1\nbound 1\nend\n",
+            5,
+            SheetKind::Relay,
+        ),
+        (
+            b"coord-sheet 1\nending hairline\ncost 1\nbound 1\nrelay R1 plug 1.00 dial 0.260\n",
+            5,
+            SheetKind::Relay,
+        ),
+        (
+            b"coord-sheet 1\nending hairline\ncost 1\nbound 1\nrelay R2 plug 1.00 dial 0.250\n",
+            5,
+            SheetKind::Relay,
+        ),
+        (
+            b"coord-sheet 1\nending hairline\ncost 1\nbound 1\nrelay R1 plug 2.00 dial 0.250\n",
+            5,
+            SheetKind::Relay,
+        ),
+        (
+            b"coord-sheet 1\nending hairline\ncost 1\nbound 1\nrelay R1 plug 1.00 dial 0.250\n",
+            6,
+            SheetKind::Relay,
+        ),
+        (
+            b"coord-sheet 1\nending hairline\ncost none\nbound 1\nrelay R1 plug 1.00 dial 0.250\n",
+            5,
+            SheetKind::End,
+        ),
     ] {
         let Err(refusal) = read_sheet(rt.alloc(), &study, text) else {
             panic!(rt; "a sheet");
@@ -166,6 +216,12 @@ fn names_the_end(rt: HostRuntime) -> Result<(), SheetRefusal> {
     let Err(refusal) = read_sheet(rt.alloc(), &study, &more) else {
         panic!(rt; "a sheet");
     };
-    assert_eq!(rt; refusal, SheetRefusal::Fault { line: 8, kind: SheetKind::After });
+    assert_eq!(rt;
+        refusal,
+        SheetRefusal::Fault {
+            line: 8,
+            kind: SheetKind::After
+        }
+    );
     Ok(())
 }

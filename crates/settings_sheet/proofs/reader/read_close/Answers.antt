@@ -8,6 +8,6 @@ returns-in_default-clause-stops c =
     (inl (record { number = refl; is_due = refl; no_such = c.in_default.ensures.no_such refl }))
 
 pub returns-then-not-is_empty-clause-stops : goal.returns-then-not-is_empty-clause-stops
-returns-then-not-is_empty-clause-stops c = 
+returns-then-not-is_empty-clause-stops c =
     subst (IsEndStop c.args.text.now c.args.line) (sym c.fault-then-not-is_empty.ensures)
     (inr (record { number = refl; is_due = refl; left = c.in-Some.left.now; parts = c.in-Some.ensures.said; some = λ empty. let is : c.is_empty.result ≡ true = search rules in absurd (cc is) }))

@@ -16,7 +16,7 @@ returns-in_err-strip_prefix-clause-no_such c none plug dial free is =
     let there : len ≡ length plug = c.word_len.ensures.exact ∙ ap (position_or_len (λ b. b == 32)) is ∙ word_ends 32 plug (codes "dial " ++ dial) free in
     let behind : rest ≡ drop len words = search rules in
     let found : rest ≡ codes " dial " ++ dial =
-        behind ∙ ap (λ k. drop k words) there ∙ ap (drop (length plug)) is ∙ drop-append_seam plug (codes " dial " ++ dial) in
+    behind ∙ ap (λ k. drop k words) there ∙ ap (drop (length plug)) is ∙ drop-append_seam plug (codes " dial " ++ dial) in
     strip_prefix_is Decides-eqb rest (codes " dial ") None c.in_err-strip_prefix.ensures.cases dial found
 
 pub returns-clause-plain : goal.returns-clause-plain

@@ -15,7 +15,7 @@ returns-in_default-clause-stops c =
     let study = study_data c.args.study.now in
     let i = c.loop-i.i in
     let found : slice_get study.relays i ≡ Some c.index.result.now =
-        slice_get_read study.relays (length study.relays) i c.index.result.now refl (omega (arith, c.args.study.now.relays.ok.0)) c.index.ensures in
+    slice_get_read study.relays (length study.relays) i c.index.result.now refl (omega (arith, c.args.study.now.relays.ok.0)) c.index.ensures in
     subst (IsRelayStop study c.args.text.now) (sym c.fault.ensures) (record {
       at = i;
       in_study = omega (arith, c.args.study.now.relays.ok.0);
@@ -26,9 +26,9 @@ returns-in_default-clause-stops c =
       left = c.loop-i.left.now;
       parts = c.loop-i.invariant.parts;
       names = below_more (λ j. IfSome (slice_get study.relays j) (λ r. IsName r.name)) i c.loop-i.invariant.names
-      (subst (λ o. IfSome o (λ r. IsName r.name)) (sym found) c.read_relay.ensures.name);
+          (subst (λ o. IfSome o (λ r. IsName r.name)) (sym found) c.read_relay.ensures.name);
       no_such = subst (λ o. IfSome o (λ relay. (pickup dial : ℕ) (rest : List ℕ) → IsOnSteps relay pickup dial → c.loop-i.left.now ≢ relay_words relay pickup dial ++ 10 ∷ rest))
-      (sym found) (c.in_default.ensures.no_such refl);
+          (sym found) (c.in_default.ensures.no_such refl);
     })
 
 pub loop-i-preserved : goal.loop-i-preserved
@@ -43,10 +43,10 @@ loop-i-preserved c =
     record {
       on_steps = steps_put study settings i c.in-Some.pickup c.in-Some.dial relay c.loop-i.invariant.on_steps within found c.in-Some.ensures.on_steps;
       parts = c.loop-i.invariant.parts ∙ ap (λ w. text_of (first_lines study settings i) ++ w) c.in-Some.ensures.said
-      ∙ sym (text_step (first_lines study settings i) (relay_words relay c.in-Some.pickup c.in-Some.dial) c.in-Some.rest.now)
-      ∙ ap (λ l. text_of l ++ c.in-Some.rest.now) (sym lines);
+          ∙ sym (text_step (first_lines study settings i) (relay_words relay c.in-Some.pickup c.in-Some.dial) c.in-Some.rest.now)
+          ∙ ap (λ l. text_of l ++ c.in-Some.rest.now) (sym lines);
       names = below_more (λ j. IfSome (slice_get study.relays j) (λ r. IsName r.name)) i c.loop-i.invariant.names
-      (subst (λ o. IfSome o (λ r. IsName r.name)) (sym found) c.read_relay.ensures.name);
+          (subst (λ o. IfSome o (λ r. IsName r.name)) (sym found) c.read_relay.ensures.name);
     }
 
 pub returns-clause-said : goal.returns-clause-said

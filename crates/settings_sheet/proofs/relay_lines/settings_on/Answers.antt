@@ -39,6 +39,6 @@ returns-clause-no_such c none plug dial free is =
     let words = c.in_ok-words-3.words.now in
     let tail = plug ++ (codes " dial " ++ dial) in
     let named : c.args.name.now ++ (codes " plug " ++ words) ≡ c.args.name.now ++ (codes " plug " ++ tail) =
-        append_cancel_left (codes "relay ") (c.args.name.now ++ (codes " plug " ++ words)) (c.args.name.now ++ (codes " plug " ++ tail)) (sym (behind_name c) ∙ is) in
+    append_cancel_left (codes "relay ") (c.args.name.now ++ (codes " plug " ++ words)) (c.args.name.now ++ (codes " plug " ++ tail)) (sym (behind_name c) ∙ is) in
     let labelled = append_cancel_left c.args.name.now (codes " plug " ++ words) (codes " plug " ++ tail) named in
     c.cut_at_dial.ensures.no_such none plug dial free (append_cancel_left (codes " plug ") words tail labelled)

@@ -20,7 +20,7 @@ spelled : (study : StudyData) (relay : Relay) → FitsRelay study relay → (lin
 spelled study relay fits line name plug words name_is plain said pickup dial on is =
     let within = plug_within study relay fits pickup on.pickup_step in
     let named : line ≡ codes "relay " ++ (name ++ (codes " plug " ++ (fixed 2 (plug_at relay pickup) ++ (codes " dial " ++ fixed 3 (dial_at relay dial))))) =
-        is ∙ ap (λ n. codes "relay " ++ (n ++ (codes " plug " ++ (fixed 2 (plug_at relay pickup) ++ (codes " dial " ++ fixed 3 (dial_at relay dial)))))) (sym name_is) in
+    is ∙ ap (λ n. codes "relay " ++ (n ++ (codes " plug " ++ (fixed 2 (plug_at relay pickup) ++ (codes " dial " ++ fixed 3 (dial_at relay dial)))))) (sym name_is) in
     same_words name plug words (fixed 2 (plug_at relay pickup)) (fixed 3 (dial_at relay dial)) plain (fixed_is_plain 2 (plug_at relay pickup) (omega (arith, within))) (sym said ∙ named)
 
 pub returns-in_err-plug-clause-no_such : goal.returns-in_err-plug-clause-no_such
