@@ -1,4 +1,4 @@
-use Rattle.std.proofs.Common.{◌≡◌, ◌≢◌, ◌⊎◌, inl, inr, ℕ, ◌+◌, ◌-◌, ◌<◌, ◌≤◌, true, false, Option, Some, None, is_some, List, [], ◌∷◌, ◌++◌, length, take, drop, map, get_or, refl, sym, ap, subst, ◌∙◌, append_assoc, append-nil, length-append, arith}
+use Rattle.std.proofs.Common.{◌≡◌, ◌≢◌, inl, inr, ℕ, ◌+◌, ◌-◌, ◌<◌, true, Option, Some, None, is_some, List, [], ◌∷◌, ◌++◌, length, drop, map, get_or, refl, sym, ap, subst, ◌∙◌, append_assoc, append-nil, length-append, arith}
 use Rattle.std.specs.List.{range_with_len}
 use Rattle.std.specs.Option.{option_map_or}
 use Rattle.std.specs.Prelude.{codes, slice_get, slice_index, IfSome, IsSome}
@@ -10,9 +10,8 @@ use Rattle.coord_model.specs.Allowed.{AreOnSteps, IsOnSteps}
 use Rattle.coord_model.specs.Choice.{Settings}
 use Rattle.coord_model.specs.Limits.{FitsStudy}
 use Rattle.coord_model.specs.StudyData.{StudyData}
-use Rattle.coord_model.specs.declared.study.Relay.{Relay}
 use Rattle.coord_text.proofs.Digits.{same_parts}
-use Rattle.settings_sheet.specs.RelayStops.{AreNames, HasNamesBelow, RelayStop, first_lines}
+use Rattle.settings_sheet.specs.RelayStops.{AreNames, RelayStop, first_lines}
 use Rattle.settings_sheet.specs.SheetData.{IsSheet, SheetData}
 use Rattle.settings_sheet.specs.SheetFaults.{StopsAt}
 use Rattle.settings_sheet.specs.SheetLines.{kind_at, relay_words, relay_words_at, settings_lines, sheet_lines, text_of}
@@ -22,7 +21,7 @@ use Rattle.settings_sheet.specs.declared.head.Head.{Head}
 use Rattle.settings_sheet.specs.declared.refusal.SheetKind.{SheetKind}
 use Rattle.settings_sheet.proofs.Peeled.{AreFirst, AreLines, Peeled, peel, stops_here}
 use Rattle.settings_sheet.proofs.SameSettings.{same_settings}
-use Rattle.settings_sheet.proofs.Spelled.{bound_is_line, cost_is_line, end_is_line, ending_is_line, format_is_line}
+use Rattle.settings_sheet.proofs.Spelled.{bound_is_line, cost_is_line, ending_is_line, format_is_line}
 use Rattle.settings_sheet.proofs.TailStops.{after_due, end_due, first_of_settings, lines_of_range, relay_due, same_head, there, words_are_line}
 use Rattle.settings_sheet.proofs.Whole.{text_lines}
 

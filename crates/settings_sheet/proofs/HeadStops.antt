@@ -1,5 +1,5 @@
-use Rattle.std.proofs.Common.{◌≡◌, ◌≢◌, ◌⊎◌, inl, inr, ℕ, ◌+◌, ◌<◌, ◌≤◌, true, false, Option, Some, None, is_some, List, [], ◌∷◌, ◌++◌, length, replicate, get_or, refl, sym, ap, subst, ◌∙◌, arith}
-use Rattle.std.specs.Prelude.{codes, slice_get, slice_index, IfSome}
+use Rattle.std.proofs.Common.{◌≡◌, ◌≢◌, inl, inr, ℕ, ◌<◌, Option, Some, None, List, [], ◌∷◌, ◌++◌, length, replicate, get_or, refl, sym, ap, subst, ◌∙◌, arith}
+use Rattle.std.specs.Prelude.{codes, slice_index, IfSome}
 use Rattle.std.proofs.lemmas.List.{append_cancel_left, get_or-replicate, length-replicate}
 use Rattle.std.proofs.lemmas.List.Elements.{All-get_or}
 use Rattle.std.proofs.lemmas.Option.{slice_get_cases}
@@ -15,9 +15,9 @@ use Rattle.settings_sheet.specs.SheetFaults.{StopsAt}
 use Rattle.settings_sheet.specs.SheetLines.{settings_lines, sheet_lines, text_of}
 use Rattle.settings_sheet.specs.SheetText.{amount, ending_word}
 use Rattle.settings_sheet.specs.declared.refusal.SheetKind.TheVariants as due
-use Rattle.settings_sheet.proofs.Peeled.{AreFirst, AreLines, stops_here}
+use Rattle.settings_sheet.proofs.Peeled.{stops_here}
 use Rattle.settings_sheet.proofs.Settled.{text_step}
-use Rattle.settings_sheet.proofs.Spelled.{bound_is_line, cost_is_line, ending_is_line, format_is_line, same_amount, same_ending}
+use Rattle.settings_sheet.proofs.Spelled.{cost_is_line, ending_is_line, format_is_line, same_ending}
 
 -- the lowest settings of a study
 abbrev pub lowest : StudyData → Settings

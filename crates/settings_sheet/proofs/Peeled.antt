@@ -3,9 +3,8 @@ use Rattle.coord_model.specs.StudyData.{StudyData}
 use Rattle.coord_text.specs.Lines.{IsLine}
 use Rattle.coord_text.proofs.Breaks.{same_first_line}
 use Rattle.settings_sheet.specs.SheetData.{IsSheet, SheetData}
-use Rattle.settings_sheet.specs.SheetFaults.{Begins, StopsAt}
+use Rattle.settings_sheet.specs.SheetFaults.{StopsAt}
 use Rattle.settings_sheet.specs.SheetLines.{kind_at, sheet_lines, text_of}
-use Rattle.settings_sheet.specs.SheetText.{sheet_text}
 use Rattle.settings_sheet.specs.declared.refusal.SheetKind.{SheetKind}
 use Rattle.settings_sheet.proofs.Whole.{text_lines}
 

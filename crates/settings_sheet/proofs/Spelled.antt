@@ -1,7 +1,7 @@
-use Rattle.std.proofs.Common.{◌≡◌, ◌≢◌, ℕ, suc, ◌+◌, ◌*◌, ◌-◌, ◌/◌, ◌^◌, ◌<◌, ◌≤◌, ◌==◌, ◌&&◌, Bool, true, false, not, cond, nat_le, Option, Some, None, List, [], ◌∷◌, ◌++◌, length, arith, refl, sym, ap, ◌∙◌, append_assoc, length-append}
+use Rattle.std.proofs.Common.{◌≡◌, ◌≢◌, ℕ, ◌+◌, ◌-◌, ◌/◌, ◌^◌, ◌<◌, ◌≤◌, ◌==◌, ◌&&◌, Bool, true, false, not, cond, nat_le, Option, Some, None, List, [], ◌∷◌, ◌++◌, length, arith, refl, sym, ap, ◌∙◌, length-append}
 use Rattle.std.specs.Fmt.{decimal}
 use Rattle.std.specs.List.{list_all, take_while}
-use Rattle.std.specs.Prelude.{codes, IfSome}
+use Rattle.std.specs.Prelude.{codes}
 use Rattle.std.proofs.Math.Nat.{div-le_self, mul-le-mul_right}
 use Rattle.std.proofs.lemmas.Bool.Decides.{nat_tests}
 use Rattle.std.proofs.lemmas.Fmt.{decimal_injective, length-decimal-le}
@@ -19,7 +19,7 @@ use Rattle.coord_model.specs.declared.study.Relay.{Relay}
 use Rattle.coord_text.specs.Lines.{IsLine, is_printable}
 use Rattle.coord_text.specs.Numbers.{fixed}
 use Rattle.coord_text.proofs.Breaks.{both_pass, same_cut, same_first_line}
-use Rattle.coord_text.proofs.Digits.{decimal-pass, fixed-pass, length-fixed, same_fixed}
+use Rattle.coord_text.proofs.Digits.{decimal-pass, fixed-pass, length-fixed}
 use Rattle.settings_sheet.specs.RelayStops.{HasNoSpace}
 use Rattle.settings_sheet.specs.SheetData.{IsShort}
 use Rattle.settings_sheet.specs.SheetLines.{relay_words}

@@ -1,32 +1,27 @@
-use Rattle.std.proofs.Common.{◌≡◌, ◌≢◌, ◌⊎◌, inl, inr, ℕ, zero, suc, ◌+◌, ◌-◌, ◌<◌, ◌≤◌, ◌==◌, nat_le, true, false, Option, Some, None, is_some, List, [], ◌∷◌, ◌++◌, length, take, drop, map, get_or, refl, sym, ap, subst, ◌∙◌, append_assoc, append-nil, length-append, arith}
+use Rattle.std.proofs.Common.{◌≡◌, inl, inr, ℕ, zero, suc, ◌+◌, ◌<◌, ◌==◌, nat_le, true, false, Option, Some, None, is_some, List, [], ◌∷◌, ◌++◌, length, drop, map, get_or, refl, sym, ap, subst, arith}
 use Rattle.std.specs.List.{range_with_len}
 use Rattle.std.specs.Option.{option_map_or}
-use Rattle.std.specs.Prelude.{codes, slice_get, slice_index, IfSome, IsSome}
+use Rattle.std.specs.Prelude.{codes, slice_get, slice_index, IfSome}
 use Rattle.std.proofs.lemmas.Bool.Decides.{nat_tests}
-use Rattle.std.proofs.lemmas.Grind.{flat_map-append}
-use Rattle.std.proofs.lemmas.List.{append_cancel_left, get_or-append_right, get_or_append_left, take-append-drop}
-use Rattle.std.proofs.lemmas.List.FromFn.{get_or-map-range_with_len, length-map-range_with_len, take-map-range_with_len}
+use Rattle.std.proofs.lemmas.List.{append_cancel_left}
 use Rattle.std.proofs.lemmas.Option.{slice_get_cases}
 use Rattle.coord_model.specs.Allowed.{AreOnSteps, IsOnSteps}
 use Rattle.coord_model.specs.Choice.{Settings}
-use Rattle.coord_model.specs.Limits.{FitsRelay, FitsStudy}
+use Rattle.coord_model.specs.Limits.{FitsStudy}
 use Rattle.coord_model.specs.Name.{IsName}
 use Rattle.coord_model.specs.StudyData.{StudyData}
 use Rattle.coord_model.specs.declared.choice.Ending.{Ending}
 use Rattle.coord_model.specs.declared.study.Relay.{Relay}
 use Rattle.coord_text.specs.Lines.{IsLine}
-use Rattle.settings_sheet.specs.RelayStops.{AreNames, HasNamesBelow, RelayStop, first_lines}
+use Rattle.settings_sheet.specs.RelayStops.{HasNamesBelow}
 use Rattle.settings_sheet.specs.SheetData.{IsSheet, IsShort, SheetData}
-use Rattle.settings_sheet.specs.SheetFaults.{StopsAt}
-use Rattle.settings_sheet.specs.SheetLines.{kind_at, relay_words, relay_words_at, settings_lines, sheet_lines, text_of}
+use Rattle.settings_sheet.specs.SheetLines.{kind_at, relay_words, relay_words_at, settings_lines, sheet_lines}
 use Rattle.settings_sheet.specs.SheetText.{amount, ending_word}
-use Rattle.settings_sheet.specs.Stages.{HasHead, head_lines}
-use Rattle.settings_sheet.specs.declared.head.Head.{Head}
-use Rattle.settings_sheet.specs.declared.refusal.SheetKind.{SheetKind}
+use Rattle.settings_sheet.specs.Stages.{head_lines}
 use Rattle.settings_sheet.specs.declared.refusal.SheetKind.TheVariants as due
 use Rattle.settings_sheet.proofs.HeadStops.{relay_fits}
-use Rattle.settings_sheet.proofs.Peeled.{AreFirst, AreLines, Peeled, peel, stops_here}
-use Rattle.settings_sheet.proofs.Spelled.{bound_is_line, cost_is_line, end_is_line, ending_is_line, format_is_line, relay_is_line, same_amount, same_ending}
+use Rattle.settings_sheet.proofs.Peeled.{AreFirst, AreLines}
+use Rattle.settings_sheet.proofs.Spelled.{end_is_line, relay_is_line, same_amount, same_ending}
 
 -- no byte is a line too
 empty_is_line : IsLine []

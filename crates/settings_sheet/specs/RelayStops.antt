@@ -1,11 +1,10 @@
 -- Where the lines of the relays stop being those of a study (ours).
-use Rattle.std.specs.Prelude.{◌≡◌, ◌≢◌, ℕ, ◌+◌, ◌<◌, ◌==◌, not, true, Some, List, ◌∷◌, ◌++◌, length, map, slice_get, IfSome}
+use Rattle.std.specs.Prelude.{◌≡◌, ◌≢◌, ℕ, ◌+◌, ◌<◌, ◌==◌, not, true, List, ◌∷◌, ◌++◌, length, map, slice_get, IfSome}
 use Rattle.std.specs.List.{list_all, range_with_len}
 use Rattle.coord_model.specs.Allowed.{AreOnSteps, IsOnSteps}
 use Rattle.coord_model.specs.Choice.{Settings}
 use Rattle.coord_model.specs.Name.{IsName}
 use Rattle.coord_model.specs.StudyData.{StudyData}
-use Rattle.coord_model.specs.declared.study.Relay.{Relay}
 use Rattle.settings_sheet.specs.SheetLines.{relay_words, relay_words_at, text_of}
 use Rattle.settings_sheet.specs.declared.refusal.SheetKind.{SheetKind}
 use Rattle.settings_sheet.specs.declared.refusal.SheetKind.TheVariants as due

@@ -1,9 +1,9 @@
 -- The text of a settings sheet (ours): its head, a line for each relay where settings are issued, and `end`.
-use Rattle.std.specs.Prelude.{◌≡◌, ℕ, Option, Some, None, is_some, List, [], ◌++◌, codes, slice_get, slice_index, IfSome, IsSome, IsNone}
+use Rattle.std.specs.Prelude.{ℕ, Option, Some, None, List, [], ◌++◌, codes, slice_get, slice_index}
 use Rattle.std.specs.Fmt.{decimal}
 use Rattle.std.specs.List.{flat_map}
-use Rattle.std.specs.Option.{option_map_or, option_map}
-use Rattle.coord_model.specs.Choice.{Settings, choice_data}
+use Rattle.std.specs.Option.{option_map_or}
+use Rattle.coord_model.specs.Choice.{Settings}
 use Rattle.coord_model.specs.Rows.{relay_numbers}
 use Rattle.coord_model.specs.StudyData.{StudyData}
 use Rattle.coord_model.specs.Time.{plug_at, dial_at}

@@ -1,5 +1,5 @@
 -- The stages of reading a settings sheet (ours): its head, its settings, its end.
-use Rattle.std.specs.Prelude.{◌≡◌, ◌≢◌, ◌⊎◌, ℕ, ◌+◌, Option, Some, None, is_some, List, [], ◌∷◌, ◌++◌, codes, IfSome, IsSome}
+use Rattle.std.specs.Prelude.{◌≡◌, ◌≢◌, ◌⊎◌, ℕ, ◌+◌, Option, is_some, List, [], ◌∷◌, ◌++◌, codes, IfSome, IsSome}
 use Rattle.coord_model.specs.Allowed.{AreOnSteps}
 use Rattle.coord_model.specs.Choice.{Settings}
 use Rattle.coord_model.specs.StudyData.{StudyData}

@@ -1,6 +1,7 @@
 //! Settings sheets both ways, for two relays in a row.
-ghost use Rattle.std.specs.Prelude.{◌≡◌, IfOk, length};
+ghost use Rattle.std.specs.Prelude.{◌≡◌, IfOk};
 ghost use Rattle.coord_model.specs.Limits.{FitsStudy};
+ghost use Rattle.coord_model.specs.Name.{IsName};
 ghost use Rattle.coord_model.specs.StudyData.{study_data};
 
 use crate::reader::read_sheet;
@@ -51,7 +52,9 @@ fn relay(name: Name, line: u16) -> Relay
     }
 }
 
-fn name(bytes: &[u8]) -> Name {
+fn name(bytes: &[u8]) -> Name
+    requires { IsName bytes.now }
+{
     Name::new(bytes).unwrap()
 }
 

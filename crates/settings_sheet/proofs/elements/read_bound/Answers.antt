@@ -1,4 +1,4 @@
-use Rattle.std.proofs.Common.{◌≡◌, refl, sym, ◌∙◌, subst}
+use Rattle.std.proofs.Common.{refl, sym, ◌∙◌, subst}
 use Rattle.std.specs.Prelude.{codes}
 use Rattle.settings_sheet.specs.SheetData.{BoundGoesWith}
 use Rattle.settings_sheet.specs.SheetText.{amount}

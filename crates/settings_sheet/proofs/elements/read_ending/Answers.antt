@@ -1,4 +1,4 @@
-use Rattle.std.proofs.Common.{◌≡◌, refl, sym, ◌∙◌}
+use Rattle.std.proofs.Common.{refl, sym, ◌∙◌}
 use Rattle.std.specs.Prelude.{codes}
 use Rattle.settings_sheet.specs.SheetText.{ending_word}
 use Rattle.settings_sheet.proofs.Spelled.{ending_is_line, same_word}

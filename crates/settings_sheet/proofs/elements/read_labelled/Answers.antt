@@ -1,4 +1,4 @@
-use Rattle.std.proofs.Common.{◌≡◌, ◌∷◌, ◌++◌, Some, None, ap, subst, sym, ◌∙◌}
+use Rattle.std.proofs.Common.{◌∷◌, ◌++◌, Some, None, ap, subst, sym, ◌∙◌}
 use Rattle.std.proofs.lemmas.Bool.Decides.{Decides-eqb}
 use Rattle.std.proofs.lemmas.Slice.Eq.{strip_prefix_is}
 use Rattle.coord_text.proofs.Breaks.{same_first_line}

@@ -1,4 +1,4 @@
-use Rattle.std.proofs.Common.{◌≡◌, ◌≢◌, true, rules, inl, inr, List, [], refl, sym, subst}
+use Rattle.std.proofs.Common.{◌≡◌, true, rules, inl, inr, refl, sym, subst}
 use Rattle.settings_sheet.specs.Stages.{IsEndStop}
 use Rattle.settings_sheet.proofs.reader.read_close.Goals as goal
 

@@ -1,4 +1,4 @@
-use Rattle.std.proofs.Common.{◌≡◌, ℕ, ◌==◌, ◌∷◌, ◌++◌, List, length, not, take, drop, ap, sym, ◌∙◌, None, rules}
+use Rattle.std.proofs.Common.{◌≡◌, ◌==◌, ◌++◌, length, not, take, drop, ap, ◌∙◌, None, rules}
 use Rattle.std.specs.List.{list_all, position_or_len}
 use Rattle.std.specs.Prelude.{codes}
 use Rattle.std.proofs.Math.Seq.{drop-append_seam}

@@ -1,4 +1,4 @@
-use Rattle.std.proofs.Common.{◌≡◌, ◌≢◌, ℕ, List, ◌+◌, ◌<◌, ◌∷◌, ◌++◌, [], Some, length, ap, subst, refl, sym, ◌∙◌, append_assoc, arith, below_more}
+use Rattle.std.proofs.Common.{◌≡◌, ◌≢◌, ℕ, List, ◌<◌, ◌∷◌, ◌++◌, Some, length, ap, subst, refl, sym, ◌∙◌, arith, below_more}
 use Rattle.std.specs.Prelude.{slice_get, IfSome}
 use Rattle.std.proofs.lemmas.Option.{slice_get_read}
 use Rattle.coord_model.specs.Allowed.{IsOnSteps}

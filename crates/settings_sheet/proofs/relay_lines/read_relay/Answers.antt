@@ -1,4 +1,4 @@
-use Rattle.std.proofs.Common.{◌≡◌, refl, sym, ◌∙◌}
+use Rattle.std.proofs.Common.{refl, sym, ◌∙◌}
 use Rattle.coord_text.proofs.Breaks.{same_first_line}
 use Rattle.settings_sheet.specs.SheetLines.{relay_words}
 use Rattle.settings_sheet.proofs.Spelled.{relay_is_line}
