@@ -1,5 +1,5 @@
 -- What stands at a place of a text of lines (ours): a line of at most 2,048 printable characters, or why there is none.
-use Rattle.std.specs.Prelude.{ℕ, ◌+◌, ◌==◌, ◌<◌, ◌≤◌, Bool, List, take, length, if◌then◌else◌, nat_lt, nat_le, ◌&&◌}
+use Rattle.std.specs.Prelude.{◌≡◌, ℕ, ◌+◌, ◌==◌, ◌<◌, ◌≤◌, Bool, true, List, take, length, if◌then◌else◌, nat_lt, nat_le, ◌&&◌}
 use Rattle.std.specs.List.{list_all, position_or_len}
 use Rattle.coord_text.specs.declared.lines.NextLine.{NextLine}
 use Rattle.coord_text.specs.declared.lines.NextLine.TheVariants.{End, TooLong, NoEnd, NotAscii, Line}
@@ -25,3 +25,8 @@ next_of left place =
 abbrev pub EndsWithin : ℕ → ℕ → NextLine → Type 0
 EndsWithin place len (Line to) = (place ≤ to) × (to < len)
 EndsWithin place len _ = Unit {0}
+
+-- a line, its line feed aside
+pub record IsLine (line : List ℕ) : Type 0 where
+  pub short : length line ≤ 2048
+  pub printable : list_all is_printable line ≡ true

@@ -6,6 +6,8 @@
 
 mod lines;
 mod numbers;
+mod words;
 
-pub use lines::{NextLine, next_line};
+pub use lines::{NextLine, next_line, split_line};
 pub use numbers::{push_fixed, push_number, push_signed};
+pub use words::{read_fixed, read_number};

@@ -1,7 +1,7 @@
 //! The lines of a text.
-ghost use Rattle.std.specs.Prelude.{◌≡◌, ◌≤◌, length, drop};
+ghost use Rattle.std.specs.Prelude.{◌≡◌, ◌≢◌, ℕ, ◌≤◌, List, ◌∷◌, ◌++◌, length, drop, IfSome, IsNone};
 ghost use Rattle.std.specs.List.{list_all};
-ghost use Rattle.coord_text.specs.Lines.{EndsWithin, is_printable, line_len, next_of};
+ghost use Rattle.coord_text.specs.Lines.{EndsWithin, IsLine, is_printable, line_len, next_of};
 
 /// The most bytes of a line, its line feed aside.
 const LONGEST_LINE: usize = 2048;
@@ -44,6 +44,20 @@ pub fn next_line(bytes: &[u8], place: usize) -> NextLine
     NextLine::Line { to: place + len }
 }
 
+/// The first line of what is left of a text, and what follows its line feed.
+///
+/// `None`: nothing is left, or what stands there is longer than 2,048 bytes, isn't printable ASCII or has no line
+/// feed.
+pub fn split_line(left: &[u8]) -> Option<(&[u8], &[u8])>
+    ensures line { IfSome result (λ parts. IsLine parts.0.now × (left.now ≡ parts.0.now ++ 10 ∷ parts.1.now)) }
+    ensures no_line { IsNone result → (line rest : List ℕ) → IsLine line → left.now ≢ line ++ 10 ∷ rest }
+{
+    match next_line(left, 0) {
+        NextLine::Line { to } => Some((&left[..to], &left[to + 1..])),
+        _ => None,
+    }
+}
+
 /// How many bytes stand before a line feed or the end.
 fn line_len(bytes: &[u8]) -> usize
     ensures exact { result ≡ line_len bytes.now }
@@ -78,6 +92,16 @@ mod tests {
             (9, NextLine::End),
         ] {
             assert_eq!(rt; next_line(text, place), line, "at {place}");
+        }
+    }
+
+    #[test]
+    fn splits_a_line_off(rt: HostRuntime) {
+        let (line, rest) = split_line(b"a b\n\nc").expect(&rt, "a line");
+        assert_eq!(rt; line, b"a b".as_slice());
+        assert_eq!(rt; rest, b"\nc".as_slice());
+        for left in [b"".as_slice(), b"a", b"\ta\n"] {
+            assert!(rt; split_line(left).is_none());
         }
     }
 

@@ -1,10 +1,9 @@
 -- The text of a settings sheet (ours): its head, a line for each relay where settings are issued, and `end`.
-use Rattle.std.specs.Prelude.{◌≡◌, ℕ, Option, Some, None, is_some, List, [], ◌++◌, codes, slice_get, slice_index, IfSome, IsSome, IsNone}
+use Rattle.std.specs.Prelude.{ℕ, Option, Some, None, List, [], ◌++◌, codes, slice_get, slice_index}
 use Rattle.std.specs.Fmt.{decimal}
 use Rattle.std.specs.List.{flat_map}
-use Rattle.std.specs.Option.{option_map_or, option_map}
-use Rattle.coord_model.specs.Allowed.{AreOnSteps}
-use Rattle.coord_model.specs.Choice.{Settings, choice_data}
+use Rattle.std.specs.Option.{option_map_or}
+use Rattle.coord_model.specs.Choice.{Settings}
 use Rattle.coord_model.specs.Rows.{relay_numbers}
 use Rattle.coord_model.specs.StudyData.{StudyData}
 use Rattle.coord_model.specs.Time.{plug_at, dial_at}
@@ -12,23 +11,7 @@ use Rattle.coord_model.specs.declared.choice.Ending.{Ending}
 use Rattle.coord_model.specs.declared.choice.Ending.TheVariants.{Closed, NoSettings, BudgetSpent, Hairline}
 use Rattle.coord_model.specs.declared.study.Relay.{Relay}
 use Rattle.coord_text.specs.Numbers.{fixed}
-use Rattle.settings_sheet.specs.declared.sheet.Sheet.{Sheet}
-
--- what a sheet says
-pub record SheetData : Type 0 where
-  pub ending : Ending
-  pub cost : Option ℕ
-  pub bound : Option ℕ
-  pub settings : Option Settings
-
--- the data of a sheet
-abbrev pub sheet_data : Sheet → SheetData
-sheet_data sheet = record {
-  ending = sheet.ending;
-  cost = sheet.cost;
-  bound = sheet.bound;
-  settings = option_map choice_data sheet.choice;
-}
+pub use Rattle.settings_sheet.specs.SheetData.{IsSheet, SheetData, sheet_data}
 
 -- the ending in a word
 abbrev pub ending_word : Ending → List ℕ
@@ -70,16 +53,3 @@ head_text sheet =
 abbrev pub sheet_text : StudyData → SheetData → List ℕ
 sheet_text study sheet =
     head_text sheet ++ option_map_or (relay_lines study) sheet.settings [] ++ codes "end\n"
-
--- the cost and the bound go with the ending
-abbrev pub GoesWith : Ending → Option ℕ → Option ℕ → Type 0
-GoesWith Closed cost bound = IsSome cost × IsSome bound
-GoesWith NoSettings cost bound = IsNone cost × IsNone bound
-GoesWith BudgetSpent cost bound = IsSome bound
-GoesWith Hairline cost bound = IsSome bound
-
--- a sheet of the study: numbers that go with its ending, and settings on the steps exactly where it has a cost
-pub record IsSheet (study : StudyData) (sheet : SheetData) : Type 0 where
-  pub goes : GoesWith sheet.ending sheet.cost sheet.bound
-  pub issued : is_some sheet.settings ≡ is_some sheet.cost
-  pub on_steps : IfSome sheet.settings (AreOnSteps study)

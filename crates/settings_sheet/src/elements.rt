@@ -1,0 +1,150 @@
+//! What stands on the lines of a settings sheet, one function for each kind of line.
+//!
+//! Each takes what is left of a text and answers what its first line says, with what follows it. `None`: the first
+//! line isn't one of this kind.
+ghost use Rattle.std.specs.Prelude.{◌≡◌, ◌≢◌, ℕ, List, ◌∷◌, ◌++◌, Option, codes, IfSome, IsNone, IsTrue};
+ghost use Rattle.coord_text.specs.Lines.{IsLine};
+ghost use Rattle.settings_sheet.specs.SheetData.{BoundGoesWith, CostGoesWith, IsShort};
+ghost use Rattle.settings_sheet.specs.SheetText.{amount, ending_word};
+
+use coord_model::Ending;
+use coord_text::{read_number, split_line};
+
+/// The most that a cost or a bound is: 16 digits.
+const MOST: u64 = 9_999_999_999_999_999;
+
+/// What follows the line of the format.
+pub fn read_format(left: &[u8]) -> Option<&[u8]>
+    ensures said { IfSome result (λ rest. left.now ≡ codes "coord-sheet 1" ++ 10 ∷ rest.now) }
+    ensures no_such { IsNone result → (rest : List ℕ) → left.now ≢ codes "coord-sheet 1" ++ 10 ∷ rest }
+{
+    let (line, rest) = split_line(left)?;
+    if line == b"coord-sheet 1".as_slice() {
+        Some(rest)
+    } else {
+        None
+    }
+}
+
+/// The ending, and what follows its line.
+pub fn read_ending(left: &[u8]) -> Option<(Ending, &[u8])>
+    ensures said { IfSome result (λ read. left.now ≡ (codes "ending " ++ ending_word read.0) ++ 10 ∷ read.1.now) }
+    ensures no_such { IsNone result → (ending : Ending) (rest : List ℕ) → left.now ≢ (codes "ending " ++ ending_word ending) ++ 10 ∷ rest }
+{
+    let (word, rest) = read_labelled(left, b"ending ")?;
+    Some((ending_of(word)?, rest))
+}
+
+/// The cost in weighted microseconds, where it goes with the ending, and what follows its line.
+pub fn read_cost(left: &[u8], ending: Ending) -> Option<(Option<u64>, &[u8])>
+    ensures said { IfSome result (λ read. left.now ≡ (codes "cost " ++ amount read.0) ++ 10 ∷ read.1.now) }
+    ensures short { IfSome result (λ read. IsShort read.0) }
+    ensures goes { IfSome result (λ read. CostGoesWith ending read.0) }
+    ensures no_such { IsNone result → (cost : Option ℕ) (rest : List ℕ) → IsShort cost → CostGoesWith ending cost
+        → left.now ≢ (codes "cost " ++ amount cost) ++ 10 ∷ rest }
+{
+    let (word, rest) = read_labelled(left, b"cost ")?;
+    let cost = amount_of(word)?;
+    if cost_goes_with(ending, cost) {
+        Some((cost, rest))
+    } else {
+        None
+    }
+}
+
+/// The bound in weighted microseconds, where it goes with the ending, and what follows its line.
+pub fn read_bound(left: &[u8], ending: Ending) -> Option<(Option<u64>, &[u8])>
+    ensures said { IfSome result (λ read. left.now ≡ (codes "bound " ++ amount read.0) ++ 10 ∷ read.1.now) }
+    ensures short { IfSome result (λ read. IsShort read.0) }
+    ensures goes { IfSome result (λ read. BoundGoesWith ending read.0) }
+    ensures no_such { IsNone result → (bound : Option ℕ) (rest : List ℕ) → IsShort bound → BoundGoesWith ending bound
+        → left.now ≢ (codes "bound " ++ amount bound) ++ 10 ∷ rest }
+{
+    let (word, rest) = read_labelled(left, b"bound ")?;
+    let bound = amount_of(word)?;
+    if bound_goes_with(ending, bound) {
+        Some((bound, rest))
+    } else {
+        None
+    }
+}
+
+/// What follows the last line.
+pub fn read_end(left: &[u8]) -> Option<&[u8]>
+    ensures said { IfSome result (λ rest. left.now ≡ codes "end" ++ 10 ∷ rest.now) }
+    ensures no_such { IsNone result → (rest : List ℕ) → left.now ≢ codes "end" ++ 10 ∷ rest }
+{
+    let (line, rest) = split_line(left)?;
+    if line == b"end".as_slice() {
+        Some(rest)
+    } else {
+        None
+    }
+}
+
+/// The word behind the label that begins the first line.
+fn read_labelled<'a>(left: &'a [u8], label: &[u8]) -> Option<(&'a [u8], &'a [u8])>
+    ensures said { IfSome result (λ read. left.now ≡ (label.now ++ read.0.now) ++ 10 ∷ read.1.now) }
+    ensures line { IfSome result (λ read. IsLine (label.now ++ read.0.now)) }
+    ensures no_such { IsNone result → (word rest : List ℕ) → IsLine (label.now ++ word) → left.now ≢ (label.now ++ word) ++ 10 ∷ rest }
+{
+    let (line, rest) = split_line(left)?;
+    Some((line.strip_prefix(label)?, rest))
+}
+
+/// The ending that the word names.
+fn ending_of(word: &[u8]) -> Option<Ending>
+    ensures named { IfSome result (λ ending. word.now ≡ ending_word ending) }
+    ensures no_such { IsNone result → (ending : Ending) → word.now ≢ ending_word ending }
+{
+    if word == b"closed".as_slice() {
+        return Some(Ending::Closed);
+    }
+    if word == b"no-settings".as_slice() {
+        return Some(Ending::NoSettings);
+    }
+    if word == b"budget-spent".as_slice() {
+        return Some(Ending::BudgetSpent);
+    }
+    if word == b"hairline".as_slice() {
+        Some(Ending::Hairline)
+    } else {
+        None
+    }
+}
+
+/// The number of at most 16 digits that the word spells, or `Some(None)` for `none`.
+fn amount_of(word: &[u8]) -> Option<Option<u64>>
+    ensures spelled { IfSome result (λ n. word.now ≡ amount n) }
+    ensures short { IfSome result (λ n. IsShort n) }
+    ensures no_such { IsNone result → (n : Option ℕ) → IsShort n → word.now ≢ amount n }
+{
+    if word == b"none".as_slice() {
+        return Some(None);
+    }
+    let n = read_number(word, MOST)?;
+    Some(Some(n))
+}
+
+/// Whether the cost goes with the ending.
+fn cost_goes_with(ending: Ending, cost: Option<u64>) -> bool
+    ensures yes { IsTrue result → CostGoesWith ending cost }
+    ensures no { CostGoesWith ending cost → IsTrue result }
+{
+    match ending {
+        Ending::Closed => cost.is_some(),
+        Ending::NoSettings => cost.is_none(),
+        Ending::BudgetSpent | Ending::Hairline => true,
+    }
+}
+
+/// Whether the bound goes with the ending.
+fn bound_goes_with(ending: Ending, bound: Option<u64>) -> bool
+    ensures yes { IsTrue result → BoundGoesWith ending bound }
+    ensures no { BoundGoesWith ending bound → IsTrue result }
+{
+    match ending {
+        Ending::NoSettings => bound.is_none(),
+        Ending::Closed | Ending::BudgetSpent | Ending::Hairline => bound.is_some(),
+    }
+}
