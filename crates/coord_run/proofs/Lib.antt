@@ -1,4 +1,5 @@
 pub mod EndLaws
 pub mod EndingLaws
 pub mod ReadingLaws
+pub mod StepLaws
 pub mod TightLaws

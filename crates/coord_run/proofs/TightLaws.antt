@@ -24,7 +24,8 @@ use Rattle.coord_model.specs.Time.{dial_at}
 use Rattle.coord_model.specs.declared.study.Relay.{Relay}
 use Rattle.coord_model.specs.declared.study.Row.{Row}
 use Rattle.coord_model.specs.declared.study.Term.{Term}
-use Rattle.coord_run.specs.Ending.{AreLowestTight, HasNoSettings, IsBelowAll, IsIssued}
+use Rattle.coord_run.specs.Ending.{AreLowestTight, HasNoSettings, IsBelowAll, IsBeside, IsIssued, IsIssuedOf}
+use Rattle.coord_run.specs.Outcome.{IssuedData}
 use Rattle.coord_run.specs.Steps.{HasManyPickups}
 use Rattle.margin_rows.specs.Box.{AreLowest, Box, FitsBox, IsFirstBox, IsIn, LiesIn}
 use Rattle.margin_rows.specs.Case.{Case, FitsCase, rows_in}
@@ -100,7 +101,7 @@ issued_is case pickups settings cost fits least inside cost_is at_most = (
 )
 
 -- what is known of the lowest settings of the tight box
-module _ (case : Case) (fits : FitsCase case) (one : (many : HasManyPickups case) → ⊥) (lowest : Settings) (tight : AreLowestTight case lowest) where
+module _ (case : Case) (lowest : Settings) (tight : AreLowestTight case lowest) where
   is_within : IsWithin tight.box tight.first
   is_within = drops_within case tight.first tight.box tight.drops
 
@@ -119,9 +120,11 @@ module _ (case : Case) (fits : FitsCase case) (one : (many : HasManyPickups case
   pub lowest_first : IsInFirstBox case lowest
   lowest_first = box_lies_first case tight.first lowest (first_box_fits case tight.first tight.is_first) (lies_within tight.box tight.first lowest is_within lies_tight)
 
+-- and with one pickup step of each relay in the first box
+module _ (case : Case) (fits : FitsCase case) (one : (many : HasManyPickups case) → ⊥) (lowest : Settings) (tight : AreLowestTight case lowest) where
   -- so no relay lacks a pickup step there
   none_empty : HasEmptyFirstBox case → ⊥
-  none_empty empty = empty.2 (slice_index lowest.pickup empty.0) (pickup_first case lowest empty.0 lowest_first empty.1)
+  none_empty empty = empty.2 (slice_index lowest.pickup empty.0) (pickup_first case lowest empty.0 (lowest_first case lowest tight) empty.1)
 
   -- and each has one pickup step
   one_step : (i step other : ℕ) → IsFirstStep case i step → IsFirstStep case i other → step ≡ other
@@ -132,9 +135,9 @@ module _ (case : Case) (fits : FitsCase case) (one : (many : HasManyPickups case
 
   -- settings of the first box have the pickups of the lowest
   pub same_pickups : (settings : Settings) → IsInFirstBox case settings → settings.pickup ≡ lowest.pickup
-  same_pickups settings inside = ext_get_or 0 settings.pickup lowest.pickup (inside.on_steps.pickups ∙ sym lowest_first.on_steps.pickups)
+  same_pickups settings inside = ext_get_or 0 settings.pickup lowest.pickup (inside.on_steps.pickups ∙ sym (lowest_first case lowest tight).on_steps.pickups)
     (λ k within. let below : k < length case.study.relays = omega (arith, within, inside.on_steps.pickups) in
-    one_step k (slice_index settings.pickup k) (slice_index lowest.pickup k) (pickup_first case settings k inside below) (pickup_first case lowest k lowest_first below))
+    one_step k (slice_index settings.pickup k) (slice_index lowest.pickup k) (pickup_first case settings k inside below) (pickup_first case lowest k (lowest_first case lowest tight) below))
 
   -- settings of the first box that loosely meet every row have no dial below theirs
   pub no_dial_below : (settings : Settings) → IsInFirstBox case settings → MeetsAllLoosely case settings → (i : ℕ) → slice_index lowest.dial i ≤ slice_index settings.dial i
@@ -142,9 +145,9 @@ module _ (case : Case) (fits : FitsCase case) (one : (many : HasManyPickups case
     | inl below ↦
         let lies_there = drops_keep case tight.first tight.box settings tight.drops (first_box_holds case tight.first settings tight.is_first inside) met in
         let here = lies_at tight.box settings Dial i lies_there below in
-        omega (arith, lowest_at Dial i below, here.from)
+        omega (arith, lowest_at case lowest tight Dial i below, here.from)
     | inr past ↦
-        let none : slice_index lowest.dial i ≡ 0 = get_or_past {X = ℕ} lowest.dial i 0 (omega (arith, past, lies_tight.dial.count)) in
+        let none : slice_index lowest.dial i ≡ 0 = get_or_past {X = ℕ} lowest.dial i 0 (omega (arith, past, (lies_tight case lowest tight).dial.count)) in
         omega (arith, none)
   ]
 
@@ -155,16 +158,16 @@ module _ (case : Case) (fits : FitsCase case) (one : (many : HasManyPickups case
       costs_rise case lowest other bound (sym (same_pickups other inside)) (no_dial_below other inside (allowed_meets case other fits allowed)) costs
 
   backup_below : (row : Row) → Contains (rows_in case) row → row.backup < length tight.box.dial
-  backup_below row listed = omega (arith, (row_facts case row listed).backup, lowest_first.on_steps.dials, lies_tight.dial.count)
+  backup_below row listed = omega (arith, (row_facts case row listed).backup, (lowest_first case lowest tight).on_steps.dials, (lies_tight case lowest tight).dial.count)
 
   -- no choice of the box with the lowest dial of the backup meets a row that they do not meet
   none_meets : (row : Row) → Contains (rows_in case) row → (MeetsLoosely case lowest row → ⊥)
       → CanMeet case tight.box Dial row.backup (end_of side.lowest (span_at Dial tight.box row.backup)) row → ⊥
   none_meets row listed fails can =
-      let inside = box_lies_first case tight.first can.settings (first_box_fits case tight.first tight.is_first) (lies_within tight.box tight.first can.settings is_within can.lies) in
-      let below : row.primary < length tight.box.dial = omega (arith, (row_facts case row listed).primary, lowest_first.on_steps.dials, lies_tight.dial.count) in
-      let high : slice_index lowest.dial row.primary ≤ slice_index can.settings.dial row.primary = omega (arith, lowest_at Dial row.primary below, (lies_at tight.box can.settings Dial row.primary can.lies below).from) in
-      fails (meets_lower case can.settings lowest row (same_pickups can.settings inside) (can.has ∙ sym (lowest_at Dial row.backup (backup_below row listed))) high can.meets)
+      let inside = box_lies_first case tight.first can.settings (first_box_fits case tight.first tight.is_first) (lies_within tight.box tight.first can.settings (is_within case lowest tight) can.lies) in
+      let below : row.primary < length tight.box.dial = omega (arith, (row_facts case row listed).primary, (lowest_first case lowest tight).on_steps.dials, (lies_tight case lowest tight).dial.count) in
+      let high : slice_index lowest.dial row.primary ≤ slice_index can.settings.dial row.primary = omega (arith, lowest_at case lowest tight Dial row.primary below, (lies_at tight.box can.settings Dial row.primary can.lies below).from) in
+      fails (meets_lower case can.settings lowest row (same_pickups can.settings inside) (can.has ∙ sym (lowest_at case lowest tight Dial row.backup (backup_below row listed))) high can.meets)
 
   -- they loosely meet every row
   pub lowest_loosely : MeetsAllLoosely case lowest
@@ -187,14 +190,14 @@ module _ (case : Case) (fits : FitsCase case) (one : (many : HasManyPickups case
   -- where they strictly meet every row, they are the strict-least of their pickups
   pub lowest_is_least : All (MeetsStrictly case lowest) (rows_in case) → IsStrictLeast case lowest.pickup lowest
   lowest_is_least met = record {
-    strict = record { same_pickups = refl; on_steps = lowest_first.on_steps; met = met };
+    strict = record { same_pickups = refl; on_steps = (lowest_first case lowest tight).on_steps; met = met };
     least = λ other strict. no_dial_below other (strict_first other strict) (strict_is_loose case other fits (strict_first other strict) strict.met);
   }
     where
       strict_first : (other : Settings) → IsStrict case lowest.pickup other → IsInFirstBox case other
       strict_first other strict = record {
         on_steps = strict.on_steps;
-        sensible = rw strict.same_pickups lowest_first.sensible;
+        sensible = rw strict.same_pickups (lowest_first case lowest tight).sensible;
       }
 
   -- where no settings with their pickups are strict, no choice of the first box strictly meets every row
@@ -204,9 +207,14 @@ module _ (case : Case) (fits : FitsCase case) (one : (many : HasManyPickups case
   -- their pickups are those of the first box
   pub lowest_pickups : AreFirstPickups case lowest.pickup
   lowest_pickups = record {
-    count = lowest_first.on_steps.pickups;
-    each = each_some lowest.pickup (IsFirstStep case) 0 (λ i below. pickup_first case lowest i lowest_first (omega (arith, below, lowest_first.on_steps.pickups)));
+    count = (lowest_first case lowest tight).on_steps.pickups;
+    each = each_some lowest.pickup (IsFirstStep case) 0 (λ i below. pickup_first case lowest i (lowest_first case lowest tight) (omega (arith, below, (lowest_first case lowest tight).on_steps.pickups)));
   }
+
+  -- what is issued of their pickups, beside them
+  pub beside : (issued : Option IssuedData) → IsIssuedOf case lowest.pickup issued → IsBeside case issued
+  beside None none = none_strictly none
+  beside (Some issued) is = is.1
 
 -- where a box is emptied that holds the first box's choices, none is allowed
 pub emptied_allows_none : (case : Case) (first later : Box) → FitsCase case → IsFirstBox case first

@@ -1,13 +1,14 @@
 //! What a coordination comes to where each relay has one pickup step in the first box.
-ghost use Rattle.std.specs.Prelude.{◌≡◌, ◌+◌, ◌^◌, ◌<◌, ℕ, length, All, IfOk, IfSome, IsNone};
+ghost use Rattle.std.specs.Prelude.{◌≡◌, ◌+◌, ◌^◌, ◌<◌, ◌≤◌, ℕ, length, All, IfOk, IfSome, IsNone};
 ghost use Rattle.std.specs.Option.{option_map};
-ghost use Rattle.coord_model.specs.Choice.{choice_data};
+ghost use Rattle.coord_model.specs.Choice.{Settings, choice_data};
 ghost use Rattle.coord_run.specs.Ending.{AreLowestTight, IsFirstUnmet, IsGap, IsIssuedOf, IsTrueOf, IsUndecided};
 ghost use Rattle.coord_run.specs.Outcome.{hair_data, issued_data, outcome_data, sheet_of};
 ghost use Rattle.coord_run.specs.Steps.{HasManyPickups};
 ghost use Rattle.margin_rows.specs.Case.{rows_in};
 ghost use Rattle.margin_rows.specs.FirstBox.{IsInFirstBox};
 ghost use Rattle.margin_rows.specs.Margin.{MeetsStrictly};
+ghost use Rattle.margin_rows.specs.Price.{cost_of, lower_cost_of};
 ghost use Rattle.settings_sheet.specs.SheetText.{IsSheet};
 
 use crate::outcome::{Hair, Issued, Outcome};
@@ -40,11 +41,12 @@ fn judge(alloc: Global, inst: &Instance, lowest: Choice) -> Result<Outcome, NoMe
     ensures printable { IfOk result (λ outcome. IsSheet inst.now.study (sheet_of (outcome_data outcome))) }
 {
     let bound = lower_cost(inst, &lowest);
+    let gap = gap(inst);
     match first_unmet(inst, &lowest) {
         Some(row) => {
             let issued = issue(alloc, inst, &lowest)?;
             let hair = Hair { choice: lowest, row };
-            Ok(weigh(inst, issued, hair, bound))
+            Ok(weigh(inst, issued, hair, bound, gap))
         }
         None => {
             let cost = cost(inst, &lowest);
@@ -58,7 +60,8 @@ fn judge(alloc: Global, inst: &Instance, lowest: Choice) -> Result<Outcome, NoMe
 /// meet every row.
 fn issue(alloc: Global, inst: &Instance, lowest: &Choice) -> Result<Option<Issued>, NoMemory>
     requires { IsInFirstBox inst.now (choice_data lowest.now) }
-    ensures { IfOk result (λ found. IsIssuedOf inst.now (choice_data lowest.now).pickup (option_map issued_data found)) }
+    ensures issued { IfOk result (λ found. IsIssuedOf inst.now (choice_data lowest.now).pickup (option_map issued_data found)) }
+    ensures small { IfOk result (λ found. IfSome found (λ issued. issued.cost < 10 ^ 16)) }
 {
     let Some(choice) = strict_least(alloc, inst, lowest.pickup.as_slice())? else {
         return Ok(None);
@@ -68,9 +71,18 @@ fn issue(alloc: Global, inst: &Instance, lowest: &Choice) -> Result<Option<Issue
 }
 
 /// The ending for what is issued: closed where it costs at most the gap more than the bound, else a hairline.
-fn weigh(inst: &Instance, issued: Option<Issued>, hair: Hair, bound: u64) -> Outcome
+fn weigh(
+    inst: &Instance,
+    issued: Option<Issued>,
+    hair: Hair,
+    bound: u64,
+    gap: u64,
+) -> Outcome
     requires undecided { IsUndecided inst.now (option_map issued_data issued) (hair_data hair) bound }
     requires bound { bound < 10 ^ 16 }
+    requires cost { IfSome issued (λ i. i.cost < 10 ^ 16) }
+    requires gap { IsGap inst.now gap }
+    requires small { gap < 10 ^ 16 }
     ensures decided { IsTrueOf inst.now (outcome_data result) }
     ensures printable { IsSheet inst.now.study (sheet_of (outcome_data result)) }
 {
@@ -81,7 +93,7 @@ fn weigh(inst: &Instance, issued: Option<Issued>, hair: Hair, bound: u64) -> Out
             bound,
         };
     };
-    if issued.cost <= bound + gap(inst) {
+    if issued.cost <= bound + gap {
         Outcome::Closed { issued, bound }
     } else {
         Outcome::Hairline {
@@ -96,6 +108,7 @@ fn weigh(inst: &Instance, issued: Option<Issued>, hair: Hair, bound: u64) -> Out
 fn gap(inst: &Instance) -> u64
     ensures exact { IsGap inst.now result }
     ensures small { result < 10 ^ 16 }
+    ensures covers { (settings : Settings) → IsInFirstBox inst.now settings → cost_of inst.now settings ≤ lower_cost_of inst.now settings + result }
 {
     least_gap(inst).max(LEAST_GAP)
 }

@@ -2,8 +2,8 @@ use Rattle.coord_model.specs.Choice.{choice_data}
 use Rattle.coord_run.proofs.TightLaws.{issued_is}
 use Rattle.coord_run.proofs.decide.issue.Goals as goal
 
-pub returns : goal.returns
-returns c =
+pub returns-clause-issued : goal.returns-clause-issued
+returns-clause-issued c =
     let case = c.args.inst.now in
     let least = rw c.in-Some.is at c.in_ok-choice.ensures.exact in
     let inside = rw c.in-Some.is at c.in_ok-choice.ensures.first_box in
