@@ -1,5 +1,5 @@
 //! Rounds of looks at the rows of a box, as far as a relay of theirs lost steps.
-ghost use Rattle.std.specs.Prelude.{◌≡◌, ℕ, ◌<◌, ◌⊎◌, Bool, true, false, length, Contains, IsTrue, ◌↔◌, slice_index_or};
+ghost use Rattle.std.specs.Prelude.{◌≡◌, ℕ, ◌<◌, ◌⊎◌, true, false, length, Contains, IsTrue, ◌↔◌, slice_index_or};
 ghost use Rattle.coord_model.specs.declared.study.Row.{Row};
 ghost use Rattle.margin_rows.specs.Case.{rows_in};
 ghost use Rattle.box_range.specs.Drops.{Drops};
