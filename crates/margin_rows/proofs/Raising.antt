@@ -1,16 +1,16 @@
 -- Raising dials to the least that strictly meet every row.
 use Rattle.std.specs.Prelude.{slice_get, slice_index}
-use Rattle.std.proofs.Common.{◌≡◌, ℕ, zero, suc, ◌+◌, ◌-◌, ◌*◌, ◌^◌, ◌<◌, ◌≤◌, inl, inr, List, [], ◌∷◌, length, get_or, set, replicate, Some, None, Option, arith, refl, sym, ap, ◌∙◌, subst, below_more, get_or-set_same, get_or-set_other}
-use Rattle.std.proofs.Math.Nat.{mul-le-mul_left, mul-le-mul_right}
+use Rattle.std.proofs.Common.{◌≡◌, ℕ, suc, ◌+◌, ◌*◌, ◌<◌, ◌≤◌, inl, inr, List, [], ◌∷◌, length, set, replicate, Some, None, Option, arith, refl, sym, ap, ◌∙◌, subst, below_more, get_or-set_same, get_or-set_other}
+use Rattle.std.proofs.Math.Nat.{mul-le-mul_right}
 use Rattle.std.proofs.lemmas.Bool.{cases_eq, cases_lt}
 use Rattle.std.proofs.lemmas.List.{length-set, length-replicate}
 use Rattle.std.proofs.lemmas.List.Sums.{sum_by-set, sum_by-cons}
-use Rattle.std.proofs.lemmas.Option.{slice_get-get_or, slice_get_within, get_or_from_slice_get}
+use Rattle.std.proofs.lemmas.Option.{slice_get_within, get_or_from_slice_get}
 use Rattle.std.specs.Int.{div_ceil}
 use Rattle.std.specs.List.{All, sum_by}
 use Rattle.std.specs.Option.{IfSome, IsSomeAnd, option_map_or}
 use Rattle.coord_model.proofs.Quotients.{ceil_covers, ceil_least}
-use Rattle.coord_model.specs.Allowed.{IsOnSteps, AreOnSteps, IsSensible, dial_of}
+use Rattle.coord_model.specs.Allowed.{IsOnSteps, IsSensible}
 use Rattle.coord_model.specs.Choice.{Settings}
 use Rattle.coord_model.specs.Limits.{FitsRelay}
 use Rattle.coord_model.specs.StudyData.{StudyData}
@@ -23,7 +23,7 @@ use Rattle.margin_rows.specs.Dial.{dial_at_step}
 use Rattle.margin_rows.specs.FirstBox.{IsFirstStep, IsInFirstBox}
 use Rattle.margin_rows.specs.Least.{AreFirstPickups, IsStrict, IsStrictLeast}
 use Rattle.margin_rows.specs.Margin.{MeetsStrictly, interval_ps}
-use Rattle.margin_rows.specs.Raised.{IsWaitOf, FitsWait, AreDialSteps, Suffices, due, IsRaised, AreLow, IsRound, step_sum}
+use Rattle.margin_rows.specs.Raised.{IsWaitOf, FitsWait, AreDialSteps, Suffices, IsRaised, AreLow, IsRound, step_sum}
 use Rattle.margin_rows.specs.Times.{time_at, ends, IsOrdinary}
 use Rattle.margin_rows.specs.declared.least.Rise.{Rise}
 use Rattle.margin_rows.specs.declared.least.Rise.TheVariants.{Kept, Rose, Beyond}
@@ -31,8 +31,8 @@ use Rattle.margin_rows.specs.declared.least.Wait.{Wait}
 use Rattle.margin_rows.proofs.Dialled.{dial_on_step}
 use Rattle.margin_rows.proofs.Listed.{IsRowOf, row_facts}
 use Rattle.margin_rows.proofs.Lowered.{zeros_at}
-use Rattle.margin_rows.proofs.Placed.{of_some, if_some, found_listed, all_rows, ends_small}
-use Rattle.margin_rows.proofs.Places.{some_and, and_some}
+use Rattle.margin_rows.proofs.Placed.{of_some, found_listed, all_rows, ends_small}
+use Rattle.margin_rows.proofs.Places.{and_some}
 use Rattle.margin_rows.proofs.Timed.{at_place}
 use Rattle.margin_rows.proofs.Written.{in_list}
 
@@ -93,8 +93,7 @@ strict_suffices case pickups dials number row wait other here is low strict =
     dial_at_step case.study row.primary (slice_index other.dial row.primary) * (time_at case row.fault row.primary (slice_index ps row.primary)).upper + interval_ps case.study
     ≤ dial_at_step case.study row.backup (slice_index other.dial row.backup) * (time_at case row.fault row.backup (slice_index ps row.backup)).lower in
     let met = subst P strict.same_pickups (at_place (MeetsStrictly case other) (rows_in case) number row strict.met here.found) in
-    let rises = mul-le-mul_right (time_at case row.fault row.primary (slice_index pickups row.primary)).upper (dial_rises case.study row.primary (slice_index dials row.primary) (slice_index other.dial row.primary) (low.lowest other strict row.primary)) in
-    (
+    let rises = mul-le-mul_right (time_at case row.fault row.primary (slice_index pickups row.primary)).upper (dial_rises case.study row.primary (slice_index dials row.primary) (slice_index other.dial row.primary) (low.lowest other strict row.primary)) in (
       rw is.backup (dial_on_step case other row.backup strict.on_steps here.facts.backup),
       rw (is.backup, is.primary, is.backup_time, is.primary_time) (omega (arith, met, rises)),
     )
@@ -236,8 +235,7 @@ wait_made case pickups number row b p backup primary here b_is p_is backup_at pr
     let backup_fits = of_some (slice_get (rows_in case) number) (λ r. IsOrdinary (time_at case r.fault r.backup b)) row here.found backup_ordinary in
     let primary_fits = of_some (slice_get (rows_in case) number) (λ r. IsOrdinary (time_at case r.fault r.primary p)) row here.found primary_ordinary in
     let low : backup.0 ≡ (time_at case row.fault row.backup b).lower = ap (λ (t : ℕ × ℕ). t.0) backup_is in
-    let high : primary.1 ≡ (time_at case row.fault row.primary p).upper = ap (λ (t : ℕ × ℕ). t.1) primary_is in
-    (
+    let high : primary.1 ≡ (time_at case row.fault row.primary p).upper = ap (λ (t : ℕ × ℕ). t.1) primary_is in (
       record {
         backup = refl;
         primary = refl;

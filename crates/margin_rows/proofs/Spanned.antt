@@ -1,5 +1,5 @@
 -- Spans of a box, relay by relay: those of the first box, and a box with another span for one relay.
-use Rattle.std.specs.Prelude.{slice_get, slice_index, IfSome, IsSomeAnd}
+use Rattle.std.specs.Prelude.{slice_get, slice_index, IfSome}
 use Rattle.std.proofs.Common.{◌≡◌, ℕ, ◌+◌, ◌<◌, ◌≤◌, ◌↔◌, ◌⊎◌, inl, inr, List, set, Some, None, Option, arith, sym, ◌∙◌, subst}
 use Rattle.std.proofs.lemmas.Bool.{cases_lt}
 use Rattle.std.proofs.lemmas.List.{length-set}

@@ -1,7 +1,6 @@
 -- Raising dials, row by row, to the least that strictly meet them.
 use Rattle.std.specs.Prelude.{◌≡◌, ℕ, ◌+◌, ◌*◌, ◌^◌, ◌<◌, ◌≤◌, List, length, slice_index, set, sum_by, All}
 use Rattle.coord_model.specs.Choice.{Settings}
-use Rattle.coord_model.specs.StudyData.{StudyData}
 use Rattle.coord_model.specs.declared.study.Row.{Row}
 use Rattle.margin_rows.specs.Box.{IsDialStep}
 use Rattle.margin_rows.specs.Case.{Case, rows_in}

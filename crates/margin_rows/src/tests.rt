@@ -8,6 +8,9 @@ use crate::{Instance, cost, loose_row, lower_cost, lowest_choice, strict_ok, str
 use coord_model::{Choice, CurveName, NoMemory, Row, Term};
 use std::alloc::Global;
 
+mod boxes;
+mod gaps;
+mod least_dials;
 mod studies;
 
 use studies::{one_fault, one_line, two_lines};
@@ -43,7 +46,7 @@ fn a_curve_of_the_fiftieth_root_lies_between_near_ends(rt: HostRuntime) -> Resul
 // At multiple 10 dials 0.250 and 0.050 lie 300 ms apart, exactly the interval.
 #[test]
 fn a_row_is_met_exactly(rt: HostRuntime) -> Result<(), BuildFault> {
-    let inst = two_lines(rt.alloc())?;
+    let inst = two_lines(rt.alloc(), 20)?;
     let rows = [Row {
         fault: 0,
         backup: 0,
@@ -68,7 +71,7 @@ fn a_row_is_met_exactly(rt: HostRuntime) -> Result<(), BuildFault> {
 // At multiple 8 the multiplier is 13.5/7 s: dials 0.280 and 0.140 lie 270 ms apart in truth, but not at the lower end.
 #[test]
 fn a_row_is_met_by_a_hair(rt: HostRuntime) -> Result<(), BuildFault> {
-    let inst = one_fault(rt.alloc())?;
+    let inst = one_fault(rt.alloc(), 2)?;
     let seen = seen_at(rt.alloc(), &inst, 1)?;
     assert!(rt;
         seen == Some(Seen {

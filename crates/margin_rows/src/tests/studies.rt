@@ -53,12 +53,19 @@ fn relay(
     }
 }
 
-/// Two lines in a row with a relay at the front of each, and a fault on each.
-pub fn two_lines(alloc: Global) -> Result<Instance, BuildFault> {
-    build(alloc, two_lines_study(alloc)?, two_lines_currents(alloc)?)
+/// Two lines in a row with a relay at the front of each, and a fault on each. The first relay has `dial_count` dials.
+pub fn two_lines(alloc: Global, dial_count: u32) -> Result<Instance, BuildFault>
+    requires { IsBetween 1 dial_count 20 }
+{
+    build(
+        alloc,
+        two_lines_study(alloc, dial_count)?,
+        two_lines_currents(alloc)?,
+    )
 }
 
-fn two_lines_study(alloc: Global) -> Result<Study, NoMemory>
+fn two_lines_study(alloc: Global, dial_count: u32) -> Result<Study, NoMemory>
+    requires { IsBetween 1 dial_count 20 }
     ensures fits { IfOk result (λ study. FitsStudy (study_data study)) }
     ensures faults { IfOk result (λ study. length study.faults.items ≡ 2) }
     ensures relays { IfOk result (λ study. length study.relays.items ≡ 2) }
@@ -75,7 +82,10 @@ fn two_lines_study(alloc: Global) -> Result<Study, NoMemory>
             to: 2,
         },
     ];
-    let relays = [relay(0, 100, 1, 50, 20, 0), relay(1, 100, 1, 50, 20, 0)];
+    let relays = [
+        relay(0, 100, 1, 50, dial_count, 0),
+        relay(1, 100, 1, 50, 20, 0),
+    ];
     let faults = [
         Fault {
             name: name(),
@@ -127,12 +137,20 @@ fn two_lines_currents(alloc: Global) -> Result<Currents, NoMemory>
     })
 }
 
-/// The same two lines with an interval of 270 ms, dials 0.140 and 0.280, and a fault on the second line alone.
-pub fn one_fault(alloc: Global) -> Result<Instance, BuildFault> {
-    build(alloc, one_fault_study(alloc)?, one_fault_currents(alloc)?)
+/// The same two lines with an interval of 270 ms, dials 0.140 and 0.280, and a fault on the second line alone. The
+/// first relay has `dial_count` dials.
+pub fn one_fault(alloc: Global, dial_count: u32) -> Result<Instance, BuildFault>
+    requires { IsBetween 1 dial_count 20 }
+{
+    build(
+        alloc,
+        one_fault_study(alloc, dial_count)?,
+        one_fault_currents(alloc)?,
+    )
 }
 
-fn one_fault_study(alloc: Global) -> Result<Study, NoMemory>
+fn one_fault_study(alloc: Global, dial_count: u32) -> Result<Study, NoMemory>
+    requires { IsBetween 1 dial_count 20 }
     ensures fits { IfOk result (λ study. FitsStudy (study_data study)) }
     ensures faults { IfOk result (λ study. length study.faults.items ≡ 1) }
     ensures relays { IfOk result (λ study. length study.relays.items ≡ 2) }
@@ -149,7 +167,10 @@ fn one_fault_study(alloc: Global) -> Result<Study, NoMemory>
             to: 2,
         },
     ];
-    let relays = [relay(0, 100, 1, 140, 2, 0), relay(1, 100, 1, 140, 2, 0)];
+    let relays = [
+        relay(0, 100, 1, 140, dial_count, 0),
+        relay(1, 100, 1, 140, 2, 0),
+    ];
     Ok(Study {
         cti_ms: 270,
         sense: 110,

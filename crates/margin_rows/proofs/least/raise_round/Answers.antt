@@ -1,11 +1,11 @@
-use Rattle.std.proofs.Common.{ℕ, List, ◌<◌, ap, arith, length, slice_index, subst, sym}
+use Rattle.std.proofs.Common.{ℕ, List, ap, arith, length, slice_index, subst, sym}
 use Rattle.std.specs.Prelude.{slice_get}
 use Rattle.coord_model.specs.declared.study.Row.{Row}
 use Rattle.margin_rows.specs.Case.{rows_in}
 use Rattle.margin_rows.specs.Margin.{MeetsStrictly}
 use Rattle.margin_rows.specs.Raised.{IsWaitOf, AreLow}
 use Rattle.margin_rows.proofs.Placed.{if_some, of_some}
-use Rattle.margin_rows.proofs.Raising.{IsSoFar, row_here, wait_meets, strict_suffices, raised_low, raised_sum, so_far_kept, so_far_rose, round_done}
+use Rattle.margin_rows.proofs.Raising.{row_here, wait_meets, strict_suffices, raised_low, raised_sum, so_far_kept, so_far_rose, round_done}
 use Rattle.margin_rows.proofs.Written.{in_list}
 use Rattle.margin_rows.proofs.least.raise_round.Goals as goal
 use Rattle.margin_rows.proofs.least.raise_round.Goals.{in-Kept, in-Rose}
@@ -37,10 +37,10 @@ loop-row-preserved c =
             so_far = rw w.rise-is (so_far_kept case pickups c.args.dials.now c.loop-row.dials c.raise.new.dials c.loop-row.row c.loop-row.rise w.in-Kept.ensures.0 met c.loop-row.invariant.so_far);
           }
       | in-Rose w ↦ record {
-          low = raised_low case pickups c.loop-row.dials c.raise.new.dials c.loop-row.row there.0 c.wait_at.result c.wait_at.ensures.fits here is c.loop-row.invariant.low w.in-Rose.ensures;
-          so_far = rw w.rise-is (so_far_rose case pickups c.args.dials.now c.loop-row.dials c.raise.new.dials c.loop-row.row c.loop-row.rise
-              (raised_sum case c.wait_at.result c.loop-row.dials c.raise.new.dials c.wait_at.ensures.fits c.loop-row.invariant.low.on_steps w.in-Rose.ensures) c.loop-row.invariant.so_far);
-        }
+        low = raised_low case pickups c.loop-row.dials c.raise.new.dials c.loop-row.row there.0 c.wait_at.result c.wait_at.ensures.fits here is c.loop-row.invariant.low w.in-Rose.ensures;
+        so_far = rw w.rise-is (so_far_rose case pickups c.args.dials.now c.loop-row.dials c.raise.new.dials c.loop-row.row c.loop-row.rise
+            (raised_sum case c.wait_at.result c.loop-row.dials c.raise.new.dials c.wait_at.ensures.fits c.loop-row.invariant.low.on_steps w.in-Rose.ensures) c.loop-row.invariant.so_far);
+      }
     ]
 
 pub returns : goal.returns

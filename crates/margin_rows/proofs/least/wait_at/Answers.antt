@@ -1,6 +1,5 @@
-use Rattle.std.proofs.Common.{◌≡◌, ℕ, List, ap, arith, get_or, length, ◌∙◌, subst, sym}
-use Rattle.std.specs.Prelude.{slice_get, slice_index}
-use Rattle.coord_model.specs.declared.study.Row.{Row}
+use Rattle.std.proofs.Common.{ℕ, ap, arith, get_or, subst, sym}
+use Rattle.std.specs.Prelude.{slice_get}
 use Rattle.margin_rows.specs.Case.{rows_in}
 use Rattle.margin_rows.specs.FirstBox.{IsFirstStep}
 use Rattle.margin_rows.specs.Raised.{IsWaitOf, FitsWait}
