@@ -1,4 +1,4 @@
--- What a look at a row, and a round of looks at the rows, makes of a box (ours).
+-- What a look at a row makes of a box (ours).
 use Rattle.std.specs.Prelude.{◌≡◌, ℕ, ◌<◌, ◌⊎◌, true, false}
 use Rattle.coord_model.specs.declared.study.Row.{Row}
 use Rattle.margin_rows.specs.Box.{Box}

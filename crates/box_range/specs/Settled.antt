@@ -32,9 +32,10 @@ pub record IsCut (case : Case) (row : Row) (box later : Box) : Type 0 where
 abbrev pub DiffersAt : ℕ → Box → Box → Type 0
 DiffersAt changed box later = (kind : Kind) (relay : ℕ) → relay ≢ changed → span_at kind later relay ≡ span_at kind box relay
 
--- the steps that are left in all spans
+-- the number of steps in a span
 abbrev pub width : Steps → ℕ
 width span = span.past - span.low
 
+-- the number of steps in all spans
 abbrev pub size : Box → ℕ
 size box = sum_by width box.pickup + sum_by width box.dial

@@ -24,7 +24,7 @@ pub enum Progress {
 
 /// Looks at each row with a relay that is due or loses steps meanwhile.
 ///
-/// `next` has no relay before, and those that lost steps after.
+/// `due` flags the relays whose rows are to be looked at; `next` flags none before, and after it those that lost steps.
 pub fn round(inst: &Instance, ranges: &mut Ranges, due: &[bool], next: &mut [bool]) -> Progress
     requires filled { IsFilled inst.now ranges.old }
     requires places { length next.old ≡ 96 }
