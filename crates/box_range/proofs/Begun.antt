@@ -1,18 +1,15 @@
 -- How the rounds begin, and how they end.
 use Rattle.std.specs.Prelude.{slice_index_or}
 use Rattle.std.specs.List.{Contains}
-use Rattle.std.proofs.Common.{◌≡◌, ℕ, ◌<◌, ◌≤◌, ◌⊎◌, inl, inr, Bool, true, false, List, length, replicate, arith, refl, sym, ap, ◌∙◌, subst}
+use Rattle.std.proofs.Common.{◌≡◌, ℕ, ◌<◌, inl, inr, true, false, length, replicate, arith}
 use Rattle.std.proofs.lemmas.Bool.{cases_lt}
 use Rattle.std.proofs.lemmas.List.{get_or-replicate, get_or_past, length-replicate}
 use Rattle.coord_model.specs.declared.study.Row.{Row}
 use Rattle.margin_rows.specs.Box.{Box, IsShownAs}
 use Rattle.margin_rows.specs.Case.{Case, rows_in, FitsCase}
 use Rattle.margin_rows.specs.declared.span.Span.{Span}
-use Rattle.margin_rows.specs.declared.span.Steps.{Steps}
-use Rattle.box_range.specs.Drops.{Drops, IsTight}
 use Rattle.box_range.specs.Kinds.{spans_of, span_at, HasEmptySpan}
-use Rattle.box_range.specs.Meeting.{IsFilled}
-use Rattle.box_range.specs.Rounds.{IsDue, IsDueOrSettled, HasPlaces, AreSettled}
+use Rattle.box_range.specs.Rounds.{IsDueOrSettled}
 use Rattle.box_range.specs.declared.kind.Kind.{Kind}
 use Rattle.box_range.proofs.Spans.{span_has}
 use Rattle.box_range.proofs.Visited.{row_places}

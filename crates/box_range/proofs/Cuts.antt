@@ -1,23 +1,20 @@
 -- Cutting steps off an end of a span, one drop after the other.
-use Rattle.std.proofs.Common.{◌≡◌, ◌≢◌, ℕ, zero, suc, ◌+◌, ◌-◌, ◌<◌, ◌≤◌, length, arith, refl, sym, ap, ◌∙◌, subst, inl, inr}
-use Rattle.std.specs.List.{Contains, sum_by}
+use Rattle.std.proofs.Common.{◌≡◌, ℕ, zero, suc, ◌+◌, ◌-◌, ◌<◌, ◌≤◌, length, arith, refl, sym, subst, inl, inr}
+use Rattle.std.specs.List.{Contains}
 use Rattle.std.proofs.lemmas.Bool.{cases_lt}
-use Rattle.std.proofs.lemmas.List.Sums.{sum_by-set}
-use Rattle.coord_model.specs.Choice.{Settings}
 use Rattle.coord_model.specs.declared.study.Row.{Row}
-use Rattle.margin_rows.specs.Box.{Box, IsIn, LiesIn, FitsBox}
-use Rattle.margin_rows.specs.Case.{Case, rows_in, FitsCase}
-use Rattle.margin_rows.specs.Margin.{MeetsLoosely}
+use Rattle.margin_rows.specs.Box.{Box, FitsBox}
+use Rattle.margin_rows.specs.Case.{Case, rows_in}
 use Rattle.margin_rows.specs.declared.span.Steps.{Steps}
-use Rattle.box_range.specs.Drops.{CanMeet, IsDroppable, Drop, dropped, Drops, none, next}
-use Rattle.box_range.specs.Kinds.{spans_of, step_of, span_at, with_span, HasSteps, lowest, highest}
+use Rattle.box_range.specs.Drops.{CanMeet, IsDroppable, Drop, Drops, none, next}
+use Rattle.box_range.specs.Kinds.{spans_of, step_of, span_at, with_span, lowest, highest}
 use Rattle.box_range.specs.Meeting.{IsFilled, IsMeetable}
-use Rattle.box_range.specs.Settled.{IsCut, DiffersAt, MeetsAtLow, MeetsAtHigh, IsSettled, width, size}
+use Rattle.box_range.specs.Settled.{IsCut, MeetsAtLow, MeetsAtHigh}
 use Rattle.box_range.specs.declared.kind.Kind.{Kind}
 use Rattle.box_range.specs.declared.kind.Kind.TheVariants.{Pickup, Dial}
 use Rattle.box_range.proofs.Order.{drops_within, drops_drops}
 use Rattle.box_range.proofs.Places.{relay_counts}
-use Rattle.box_range.proofs.Spans.{span_has, steps_have, lies_at, with_count, with_same, with_other, with_twice, with_own}
+use Rattle.box_range.proofs.Spans.{span_has, steps_have, lies_at, with_count, with_same, with_twice, with_own}
 use Rattle.box_range.proofs.Within.{narrowed_within, droppable_within, lies_narrowed, fits_within}
 
 -- the lowest n steps of a span are dropped where each of them is droppable

@@ -1,10 +1,9 @@
 -- What tightening keeps, from the drops and their end alone.
-use Rattle.std.proofs.Common.{◌≡◌, ◌↔◌, refl, sym, ap, ◌∙◌, subst}
-use Rattle.coord_model.specs.Choice.{Settings}
-use Rattle.margin_rows.specs.Box.{Box, LiesIn, FitsBox}
+use Rattle.std.proofs.Common.{◌≡◌, ◌↔◌, refl}
+use Rattle.margin_rows.specs.Box.{Box, FitsBox}
 use Rattle.margin_rows.specs.Case.{Case}
-use Rattle.box_range.specs.Drops.{Drops, IsTight, IsEmptied, MeetsAllLoosely}
-use Rattle.box_range.specs.Ends.{HasEnded, IsAtEnd}
+use Rattle.box_range.specs.Drops.{Drops, IsTight, IsEmptied}
+use Rattle.box_range.specs.Ends.{HasEnded}
 use Rattle.box_range.specs.Kinds.{HasEmptySpan}
 use Rattle.box_range.specs.declared.tightening.Tightened.{Tightened}
 use Rattle.box_range.specs.declared.tightening.Tightened.TheVariants.{Tight, Emptied}

@@ -1,20 +1,19 @@
 -- What a look at a row comes to.
 use Rattle.std.specs.List.{Contains}
-use Rattle.std.proofs.Common.{◌≡◌, ◌≢◌, ℕ, ◌<◌, ◌≤◌, ◌⊎◌, inl, inr, Bool, true, false, length, arith, refl, sym, ap, ◌∙◌, subst}
+use Rattle.std.proofs.Common.{◌≡◌, ℕ, ◌<◌, ◌≤◌, inl, inr, Bool, true, false, length, arith, refl, ap, ◌∙◌}
 use Rattle.std.proofs.lemmas.Bool.{cases_eq}
 use Rattle.coord_model.specs.declared.study.Row.{Row}
 use Rattle.margin_rows.specs.Box.{Box}
 use Rattle.margin_rows.specs.Case.{Case, rows_in}
 use Rattle.margin_rows.specs.declared.span.Steps.{Steps}
-use Rattle.box_range.specs.Drops.{CanMeet, Drops}
-use Rattle.box_range.specs.Kinds.{spans_of, span_at, with_span, HasSpan, HasEmptySpan}
-use Rattle.box_range.specs.Looks.{IsSettling, IsUnmoved}
+use Rattle.box_range.specs.Drops.{Drops}
+use Rattle.box_range.specs.Kinds.{spans_of, span_at, with_span, HasEmptySpan}
+use Rattle.box_range.specs.Looks.{IsSettling}
 use Rattle.box_range.specs.Meeting.{IsFilled, IsMeetable}
 use Rattle.box_range.specs.Settled.{IsCut, DiffersAt, MeetsAtLow, MeetsAtHigh, size}
 use Rattle.box_range.specs.declared.kind.Kind.{Kind}
-use Rattle.box_range.specs.declared.kind.Kind.TheVariants.{Pickup, Dial}
-use Rattle.box_range.specs.declared.look.Moved.{Moved}
-use Rattle.box_range.proofs.Cuts.{cut_high, cut_cut, cut_filled, cut_meetable, cut_low_end}
+use Rattle.box_range.specs.declared.kind.Kind.TheVariants.{Dial}
+use Rattle.box_range.proofs.Cuts.{cut_high, cut_cut, cut_filled, cut_low_end}
 use Rattle.box_range.proofs.Places.{relay_counts}
 use Rattle.box_range.proofs.Spans.{has_steps, span_has, with_count, with_same}
 

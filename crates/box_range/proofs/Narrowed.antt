@@ -1,13 +1,13 @@
 -- A row's span written anew without its useless steps.
 use Rattle.std.specs.List.{Contains}
-use Rattle.std.proofs.Common.{◌≡◌, ℕ, ◌+◌, ◌-◌, ◌<◌, ◌≤◌, length, arith, refl, sym, ap, ◌∙◌, subst}
+use Rattle.std.proofs.Common.{◌≡◌, ℕ, ◌+◌, ◌-◌, ◌<◌, ◌≤◌, arith, ap}
 use Rattle.coord_model.specs.declared.study.Row.{Row}
-use Rattle.margin_rows.specs.Box.{Box, FitsBox}
+use Rattle.margin_rows.specs.Box.{Box}
 use Rattle.margin_rows.specs.Case.{Case, rows_in}
 use Rattle.margin_rows.specs.declared.span.Span.{Span}
 use Rattle.margin_rows.specs.declared.span.Steps.{Steps}
 use Rattle.box_range.specs.Drops.{CanMeet}
-use Rattle.box_range.specs.Kinds.{spans_of, span_at, with_span}
+use Rattle.box_range.specs.Kinds.{span_at, with_span}
 use Rattle.box_range.specs.Meeting.{IsFilled}
 use Rattle.box_range.specs.Settled.{IsCut, MeetsAtLow, MeetsAtHigh}
 use Rattle.box_range.specs.declared.kind.Kind.{Kind}

@@ -1,6 +1,6 @@
 -- The order of drops doesn't matter, and what each drop keeps.
-use Rattle.std.specs.Prelude.{All, Contains}
-use Rattle.std.proofs.Common.{◌≡◌, ◌≢◌, ℕ, suc, ◌-◌, ◌<◌, ◌≤◌, length, arith, refl, sym, ap, ◌∙◌, subst}
+use Rattle.std.specs.Prelude.{Contains}
+use Rattle.std.proofs.Common.{◌≡◌, ◌≢◌, ℕ, ◌-◌, ◌<◌, ◌≤◌, length, arith}
 use Rattle.std.proofs.lemmas.List.Elements.{All-contains}
 use Rattle.coord_model.specs.Choice.{Settings}
 use Rattle.coord_model.specs.declared.study.Row.{Row}
@@ -8,10 +8,9 @@ use Rattle.margin_rows.specs.Box.{Box, IsIn, LiesIn}
 use Rattle.margin_rows.specs.Case.{Case, rows_in}
 use Rattle.margin_rows.specs.Margin.{MeetsLoosely}
 use Rattle.margin_rows.specs.declared.span.Steps.{Steps}
-use Rattle.box_range.specs.Drops.{CanMeet, IsDroppable, Drop, dropped, Drops, none, next, IsTight, IsEmptied, MeetsAllLoosely}
-use Rattle.box_range.specs.Kinds.{spans_of, step_of, span_at, with_span, HasSteps, HasEmptySpan, Side, lowest, highest, end_of, without_end}
+use Rattle.box_range.specs.Drops.{IsDroppable, Drop, dropped, Drops, none, next, IsTight, MeetsAllLoosely}
+use Rattle.box_range.specs.Kinds.{spans_of, step_of, span_at, with_span, HasEmptySpan, Side, lowest, highest, end_of, without_end}
 use Rattle.box_range.specs.declared.kind.Kind.{Kind}
-use Rattle.box_range.specs.declared.kind.Kind.TheVariants.{Pickup, Dial}
 use Rattle.box_range.proofs.Spans.{has_span, span_has, has_steps, lies_at}
 use Rattle.box_range.proofs.Within.{IsWithin, within_itself, within_within, narrowed_within, within_narrowed, lies_narrowed, droppable_within, within_both}
 

@@ -1,10 +1,9 @@
 -- The two relays of a row.
 use Rattle.std.specs.Prelude.{slice_get, ◌&&◌, ◌==◌, nat_lt, not}
 use Rattle.std.specs.List.{Contains}
-use Rattle.std.proofs.Common.{◌≡◌, ◌≢◌, ℕ, ◌<◌, Bool, true, false, Option, Some, None, length, arith, rules, refl, sym, ap, ◌∙◌, subst}
-use Rattle.coord_model.specs.Rows.{waits, backs, looks_towards, is_exempt, amps_at}
+use Rattle.std.proofs.Common.{◌≡◌, ◌≢◌, ℕ, ◌<◌, Bool, true, false, Option, Some, None, length, arith, rules, refl}
+use Rattle.coord_model.specs.Rows.{backs, looks_towards, is_exempt, amps_at}
 use Rattle.coord_model.specs.StudyData.{StudyData}
-use Rattle.coord_model.specs.declared.study.Current.{Current}
 use Rattle.coord_model.specs.declared.study.Relay.{Relay}
 use Rattle.coord_model.specs.declared.study.Row.{Row}
 use Rattle.margin_rows.specs.Box.{Box, FitsBox}

@@ -1,7 +1,7 @@
 -- A round, up to one of its rows.
 use Rattle.std.specs.Prelude.{slice_get, slice_index_or}
 use Rattle.std.specs.List.{Contains}
-use Rattle.std.proofs.Common.{◌≡◌, ◌≢◌, ℕ, ◌+◌, ◌<◌, ◌≤◌, ◌⊎◌, inl, inr, Bool, true, false, List, length, Some, arith, refl, sym, ap, ◌∙◌, subst}
+use Rattle.std.proofs.Common.{◌≡◌, ℕ, ◌+◌, ◌<◌, ◌≤◌, ◌⊎◌, inl, inr, Bool, true, false, List, length, Some, arith, refl, sym, ap, ◌∙◌, subst}
 use Rattle.std.proofs.lemmas.Bool.{cases_eq}
 use Rattle.std.proofs.lemmas.Option.{slice_get-get_or}
 use Rattle.coord_model.specs.declared.study.Row.{Row}
@@ -10,7 +10,7 @@ use Rattle.margin_rows.specs.Case.{Case, rows_in}
 use Rattle.box_range.specs.Drops.{Drops, none}
 use Rattle.box_range.specs.Meeting.{HasRow, IsFilled}
 use Rattle.box_range.specs.Rounds.{IsDue, IsDueOrSettled, IsIdle, IsBusy, IsUnfinished, AreSettled}
-use Rattle.box_range.specs.Settled.{IsSettled, size}
+use Rattle.box_range.specs.Settled.{size}
 use Rattle.box_range.proofs.Order.{drops_drops}
 use Rattle.box_range.proofs.Places.{listed}
 

@@ -1,16 +1,15 @@
 -- A box whose rows are settled is tight.
-use Rattle.std.specs.Prelude.{slice_get, slice_index}
+use Rattle.std.specs.Prelude.{slice_index}
 use Rattle.std.specs.List.{Contains}
-use Rattle.std.proofs.Common.{◌≡◌, ◌≢◌, ℕ, ◌-◌, ◌<◌, ◌≤◌, ◌⊎◌, inl, inr, List, length, set, get_or, arith, refl, sym, ap, ◌∙◌, subst}
+use Rattle.std.proofs.Common.{◌≡◌, ◌≢◌, ℕ, ◌-◌, ◌<◌, inl, inr, List, length, set, get_or, arith, sym, ◌∙◌, subst}
 use Rattle.std.proofs.lemmas.Bool.{cases_eq}
 use Rattle.std.proofs.lemmas.List.{length-set, get_or-set_same, get_or-set_other}
 use Rattle.coord_model.specs.Choice.{Settings}
 use Rattle.coord_model.specs.declared.study.Row.{Row}
 use Rattle.margin_rows.specs.Box.{Box, IsIn, AreIn, LiesIn}
 use Rattle.margin_rows.specs.Case.{Case, rows_in}
-use Rattle.margin_rows.specs.Margin.{MeetsLoosely}
 use Rattle.margin_rows.specs.declared.span.Steps.{Steps}
-use Rattle.box_range.specs.Drops.{CanMeet, Drop, IsTight}
+use Rattle.box_range.specs.Drops.{CanMeet, IsTight}
 use Rattle.box_range.specs.Kinds.{spans_of, step_of, span_at, Side, lowest, highest, end_of}
 use Rattle.box_range.specs.Meeting.{IsFilled, MeetsWith}
 use Rattle.box_range.specs.Rounds.{AreSettled}

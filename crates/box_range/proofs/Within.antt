@@ -1,5 +1,5 @@
 -- Boxes within boxes.
-use Rattle.std.proofs.Common.{◌≡◌, ℕ, suc, pred, ◌<◌, ◌≤◌, length, arith, refl, sym, ap, ◌∙◌, subst}
+use Rattle.std.proofs.Common.{◌≡◌, ℕ, ◌<◌, ◌≤◌, length, arith, refl, sym, ap, ◌∙◌}
 use Rattle.coord_model.specs.Choice.{Settings}
 use Rattle.coord_model.specs.declared.study.Row.{Row}
 use Rattle.margin_rows.specs.Box.{Box, IsIn, LiesIn, FitsBox, IsDialStep}
@@ -10,7 +10,7 @@ use Rattle.box_range.specs.Drops.{CanMeet, IsDroppable}
 use Rattle.box_range.specs.Kinds.{spans_of, step_of, span_at, with_span}
 use Rattle.box_range.specs.declared.kind.Kind.{Kind}
 use Rattle.box_range.specs.declared.kind.Kind.TheVariants.{Pickup, Dial}
-use Rattle.box_range.proofs.Spans.{no_span, each_some, some_each, lies_at, lies, same_boxes, with_count, with_same, with_each}
+use Rattle.box_range.proofs.Spans.{no_span, each_some, some_each, lies_at, lies, same_boxes, with_count, with_each}
 
 -- each span of the one box lies within that of the other
 pub record IsWithin (inner outer : Box) : Type 0 where

@@ -1,8 +1,8 @@
--- What a look at a row, and a round of looks at the rows, makes of a box (ours).
-use Rattle.std.specs.Prelude.{◌≡◌, ℕ, ◌<◌, ◌⊎◌, Bool, true, false, List, Contains, slice_index_or}
+-- What a look at a row makes of a box (ours).
+use Rattle.std.specs.Prelude.{◌≡◌, ℕ, ◌<◌, ◌⊎◌, true, false}
 use Rattle.coord_model.specs.declared.study.Row.{Row}
 use Rattle.margin_rows.specs.Box.{Box}
-use Rattle.margin_rows.specs.Case.{Case, rows_in}
+use Rattle.margin_rows.specs.Case.{Case}
 use Rattle.box_range.specs.Kinds.{span_at, HasEmptySpan}
 use Rattle.box_range.specs.Meeting.{IsFilled}
 use Rattle.box_range.specs.Settled.{IsSettled, IsCut, size}

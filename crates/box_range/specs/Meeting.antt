@@ -1,9 +1,6 @@
 -- Whether a row can be met in a box, by the steps of its two relays (ours).
 use Rattle.std.specs.Prelude.{◌≡◌, ℕ, ◌+◌, ◌-◌, ◌*◌, ◌<◌, ◌≤◌, Some, length, slice_get}
-use Rattle.std.specs.Option.{option_map_or}
 use Rattle.coord_model.specs.Choice.{Settings}
-use Rattle.coord_model.specs.StudyData.{StudyData}
-use Rattle.coord_model.specs.Time.{dial_at}
 use Rattle.coord_model.specs.declared.study.Row.{Row}
 use Rattle.margin_rows.specs.Box.{Box, FitsBox, LiesIn, IsDialStep}
 use Rattle.margin_rows.specs.Case.{Case, rows_in, FitsCase}

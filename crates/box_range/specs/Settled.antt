@@ -1,5 +1,5 @@
 -- A row of a box whose four ends are of use, and boxes from which a row's useless ends are cut (ours).
-use Rattle.std.specs.Prelude.{◌≡◌, ℕ, ◌+◌, ◌-◌, ◌≢◌, List, sum_by}
+use Rattle.std.specs.Prelude.{◌≡◌, ℕ, ◌+◌, ◌-◌, ◌≢◌, sum_by}
 use Rattle.coord_model.specs.Choice.{Settings}
 use Rattle.coord_model.specs.declared.study.Row.{Row}
 use Rattle.margin_rows.specs.Box.{Box, LiesIn}
@@ -8,7 +8,6 @@ use Rattle.margin_rows.specs.Margin.{MeetsLoosely}
 use Rattle.margin_rows.specs.declared.span.Steps.{Steps}
 use Rattle.box_range.specs.Drops.{CanMeet, Drops}
 use Rattle.box_range.specs.Kinds.{span_at}
-use Rattle.box_range.specs.Meeting.{IsFilled}
 use Rattle.box_range.specs.declared.kind.Kind.{Kind}
 
 -- some choice of the box with the backup's lowest step meets the row
@@ -33,9 +32,10 @@ pub record IsCut (case : Case) (row : Row) (box later : Box) : Type 0 where
 abbrev pub DiffersAt : ℕ → Box → Box → Type 0
 DiffersAt changed box later = (kind : Kind) (relay : ℕ) → relay ≢ changed → span_at kind later relay ≡ span_at kind box relay
 
--- the steps that are left in all spans
+-- the number of steps in a span
 abbrev pub width : Steps → ℕ
 width span = span.past - span.low
 
+-- the number of steps in all spans
 abbrev pub size : Box → ℕ
 size box = sum_by width box.pickup + sum_by width box.dial

@@ -1,5 +1,5 @@
 //! The two settings of a relay, and its spans in a box.
-ghost use Rattle.std.specs.Prelude.{◌≡◌, ◌<◌, ◌≤◌, length};
+ghost use Rattle.std.specs.Prelude.{◌≡◌, ◌<◌, length};
 ghost use Rattle.margin_rows.specs.Box.{IsShownAs};
 ghost use Rattle.box_range.specs.Kinds.{spans_of, span_at, with_span};
 

@@ -1,5 +1,5 @@
 //! A look at one row of a box.
-ghost use Rattle.std.specs.Prelude.{◌≡◌, ℕ, ◌<◌, true, false, length};
+ghost use Rattle.std.specs.Prelude.{◌≡◌, ◌<◌, true, false, length};
 ghost use Rattle.box_range.specs.Drops.{Drops};
 ghost use Rattle.box_range.specs.Kinds.{spans_of, span_at, with_span, HasSteps};
 ghost use Rattle.box_range.specs.Meeting.{HasRow, IsFilled, IsMeetable};

@@ -1,5 +1,5 @@
 //! Rounds of looks at the rows of a box, as far as a relay of theirs lost steps.
-ghost use Rattle.std.specs.Prelude.{◌≡◌, ℕ, ◌<◌, ◌⊎◌, Bool, true, false, length, Contains, IsTrue, ◌↔◌, slice_index_or};
+ghost use Rattle.std.specs.Prelude.{◌≡◌, ℕ, ◌<◌, ◌⊎◌, true, false, length, Contains, IsTrue, ◌↔◌, slice_index_or};
 ghost use Rattle.coord_model.specs.declared.study.Row.{Row};
 ghost use Rattle.margin_rows.specs.Case.{rows_in};
 ghost use Rattle.box_range.specs.Drops.{Drops};
@@ -24,7 +24,7 @@ pub enum Progress {
 
 /// Looks at each row with a relay that is due or loses steps meanwhile.
 ///
-/// `next` has no relay before, and those that lost steps after.
+/// `due` flags the relays whose rows are to be looked at; `next` flags none before, and after it those that lost steps.
 pub fn round(inst: &Instance, ranges: &mut Ranges, due: &[bool], next: &mut [bool]) -> Progress
     requires filled { IsFilled inst.now ranges.old }
     requires places { length next.old ≡ 96 }

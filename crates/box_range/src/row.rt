@@ -1,9 +1,9 @@
 //! Whether a row can be met: its two relays and their steps.
-ghost use Rattle.std.specs.Prelude.{◌≡◌, ◌<◌, ◌≤◌, ◌^◌, ◌↔◌, length, IsTrue};
+ghost use Rattle.std.specs.Prelude.{◌≡◌, ◌<◌, ◌^◌, ◌↔◌, IsTrue};
 ghost use Rattle.margin_rows.specs.Box.{IsIn};
 ghost use Rattle.margin_rows.specs.Margin.{interval_ps};
 ghost use Rattle.box_range.specs.Drops.{CanMeet};
-ghost use Rattle.box_range.specs.Kinds.{spans_of, span_at, HasSteps};
+ghost use Rattle.box_range.specs.Kinds.{span_at, HasSteps};
 ghost use Rattle.box_range.specs.Meeting.{HasRow, IsFilled, IsMeetable, AreFirst, MeetsWith, HasRelays, relay_of, best_steps, with_step};
 
 use crate::kind::{Kind, span};

@@ -1,5 +1,5 @@
 //! The tight box: what is left once every end that no choice can use is dropped.
-ghost use Rattle.std.specs.Prelude.{◌≡◌, ℕ, ◌<◌, ◌≤◌, ◌↔◌, true, false, length, Contains, IsTrue, slice_index_or};
+ghost use Rattle.std.specs.Prelude.{◌≡◌, ◌<◌, ◌↔◌, true, false, length, IsTrue};
 ghost use Rattle.coord_model.specs.Choice.{Settings};
 ghost use Rattle.margin_rows.specs.Box.{Box, LiesIn, FitsBox};
 ghost use Rattle.box_range.specs.Drops.{Drops, IsTight, IsEmptied, MeetsAllLoosely};

@@ -1,6 +1,5 @@
-use Rattle.std.proofs.Common.{ℕ, ◌<◌, ◌≤◌, ◌+◌, ◌-◌, ◌/◌, arith, inl, inr, nat_eq}
+use Rattle.std.proofs.Common.{ℕ, ◌-◌, ◌/◌, arith, inl, inr}
 use Rattle.std.proofs.lemmas.Bool.{cases_lt}
-use Rattle.box_range.specs.Drops.{CanMeet}
 use Rattle.box_range.proofs.Meets.{can_fall}
 use Rattle.box_range.proofs.Places.{listed}
 use Rattle.box_range.proofs.ends.highest.Goals as goal

@@ -1,4 +1,3 @@
-use Rattle.std.proofs.Common.{arith}
 use Rattle.box_range.specs.declared.row.Part.TheVariants.{Primary}
 use Rattle.box_range.proofs.Cuts.{uncut}
 use Rattle.box_range.proofs.Meets.{meets_lowest, relay_below}

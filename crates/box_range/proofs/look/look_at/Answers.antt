@@ -1,4 +1,3 @@
-use Rattle.std.proofs.Common.{ℕ}
 use Rattle.box_range.specs.declared.kind.Kind.TheVariants.{Dial}
 use Rattle.box_range.specs.declared.row.Part.TheVariants.{Primary}
 use Rattle.box_range.proofs.Looked.{cleared_drops, cleared_empty}

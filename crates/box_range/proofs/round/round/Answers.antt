@@ -1,5 +1,4 @@
-use Rattle.std.proofs.Common.{◌≡◌, ◌≤◌, ◌+◌, ℕ, length, arith, true, false, sym, subst, Bool}
-use Rattle.margin_rows.specs.Case.{rows_in}
+use Rattle.std.proofs.Common.{◌+◌, sym, subst, Bool}
 use Rattle.box_range.proofs.Order.{drops_drops}
 use Rattle.box_range.proofs.Rounded.{IsUpTo, round_begins, up_to_idle, up_to_busy, up_to_most, round_moved, round_kept}
 use Rattle.box_range.proofs.round.round.Goals as goal

@@ -1,5 +1,5 @@
-use Rattle.std.proofs.Common.{◌≡◌, ℕ, sym, subst, ◌∙◌, ap}
-use Rattle.box_range.specs.Meeting.{AreFirst, MeetsWith, best_steps, with_step}
+use Rattle.std.proofs.Common.{sym, subst}
+use Rattle.box_range.specs.Meeting.{AreFirst}
 use Rattle.box_range.specs.declared.row.RowSteps.{RowSteps}
 use Rattle.box_range.proofs.Meets.{with_first, with_can, can_with}
 use Rattle.box_range.proofs.Places.{listed, relay_counts}

@@ -1,5 +1,5 @@
-use Rattle.std.proofs.Common.{◌≡◌, ℕ, sym, subst}
-use Rattle.box_range.specs.Meeting.{AreFirst, MeetsWith, best_steps}
+use Rattle.std.proofs.Common.{sym, subst}
+use Rattle.box_range.specs.Meeting.{AreFirst}
 use Rattle.box_range.specs.declared.row.RowSteps.{RowSteps}
 use Rattle.box_range.proofs.Meets.{best_first, best_meetable, meetable_best}
 use Rattle.box_range.proofs.Places.{listed, relay_counts}

@@ -1,5 +1,4 @@
 use Rattle.std.specs.List.{Contains}
-use Rattle.std.proofs.Common.{ℕ}
 use Rattle.coord_model.specs.declared.study.Row.{Row}
 use Rattle.margin_rows.specs.Case.{rows_in}
 use Rattle.box_range.specs.Drops.{Drops}
