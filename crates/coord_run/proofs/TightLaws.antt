@@ -79,11 +79,11 @@ meets_lower case a b row same backup primary meets =
     let lower = (time_at case row.fault row.primary (get_or b.pickup row.primary 0)).lower in
     let upper = (time_at case row.fault row.backup (get_or b.pickup row.backup 0)).upper in
     let P : List ℕ → Type 0 = λ ps. dial_of case.study a row.primary * (time_at case row.fault row.primary (get_or ps row.primary 0)).lower + interval_ps case.study
-        ≤ dial_of case.study a row.backup * (time_at case row.fault row.backup (get_or ps row.backup 0)).upper in
+    ≤ dial_of case.study a row.backup * (time_at case row.fault row.backup (get_or ps row.backup 0)).upper in
     let here : dial_of case.study a row.primary * lower + interval_ps case.study ≤ dial_of case.study a row.backup * upper = subst P same meets in
     let slower : dial_of case.study b row.primary * lower ≤ dial_of case.study a row.primary * lower = mul-le-mul_right lower (dial_rises (slice_get case.study.relays row.primary) _ _ primary) in
     let later : dial_of case.study a row.backup * upper ≡ dial_of case.study b row.backup * upper =
-        ap (λ d. option_map_or (λ relay. dial_at relay d) (slice_get case.study.relays row.backup) 0 * upper) backup in
+    ap (λ d. option_map_or (λ relay. dial_at relay d) (slice_get case.study.relays row.backup) 0 * upper) backup in
     omega (arith, here, slower, later)
 
 -- the strict-least settings of pickups are issued
@@ -112,9 +112,9 @@ module _ (case : Case) (lowest : Settings) (tight : AreLowestTight case lowest) 
   -- they lie in the tight box
   pub lies_tight : LiesIn tight.box lowest
   lies_tight = lies tight.box lowest
-    (ap (λ (xs : List ℕ). length xs) tight.lowest.pickup ∙ length-map (λ (s : Steps). s.low) tight.box.pickup)
-    (ap (λ (xs : List ℕ). length xs) tight.lowest.dial ∙ length-map (λ (s : Steps). s.low) tight.box.dial)
-    (λ kind i below. rw (lowest_at kind i below) (record { from = omega arith; before = has_steps tight.box kind i tight.tight.steps below }))
+      (ap (λ (xs : List ℕ). length xs) tight.lowest.pickup ∙ length-map tight.box.pickup (λ (s : Steps). s.low))
+      (ap (λ (xs : List ℕ). length xs) tight.lowest.dial ∙ length-map tight.box.dial (λ (s : Steps). s.low))
+      (λ kind i below. rw (lowest_at kind i below) (record { from = omega arith; before = has_steps tight.box kind i tight.tight.steps below }))
 
   -- and in the first box
   pub lowest_first : IsInFirstBox case lowest
@@ -136,8 +136,8 @@ module _ (case : Case) (fits : FitsCase case) (one : (many : HasManyPickups case
   -- settings of the first box have the pickups of the lowest
   pub same_pickups : (settings : Settings) → IsInFirstBox case settings → settings.pickup ≡ lowest.pickup
   same_pickups settings inside = ext_get_or 0 settings.pickup lowest.pickup (inside.on_steps.pickups ∙ sym (lowest_first case lowest tight).on_steps.pickups)
-    (λ k within. let below : k < length case.study.relays = omega (arith, within, inside.on_steps.pickups) in
-    one_step k (slice_index settings.pickup k) (slice_index lowest.pickup k) (pickup_first case settings k inside below) (pickup_first case lowest k (lowest_first case lowest tight) below))
+      (λ k within. let below : k < length case.study.relays = omega (arith, within, inside.on_steps.pickups) in
+      one_step k (slice_index settings.pickup k) (slice_index lowest.pickup k) (pickup_first case settings k inside below) (pickup_first case lowest k (lowest_first case lowest tight) below))
 
   -- settings of the first box that loosely meet every row have no dial below theirs
   pub no_dial_below : (settings : Settings) → IsInFirstBox case settings → MeetsAllLoosely case settings → (i : ℕ) → slice_index lowest.dial i ≤ slice_index settings.dial i
@@ -176,14 +176,14 @@ module _ (case : Case) (fits : FitsCase case) (one : (many : HasManyPickups case
       met : (row : Row) → Contains (rows_in case) row → MeetsLoosely case lowest row
       met row listed = elim (cases_lt (greatest_ps case lowest row.fault row.backup) (least_ps case lowest row.fault row.primary + interval_ps case.study)) [
         | inl short ↦ absurd (tight.tight.no_drop (record {
-            kind = Dial;
-            side = side.lowest;
-            relay = row.backup;
-            span = span_at Dial tight.box row.backup;
-            stands = span_has tight.box Dial row.backup (backup_below row listed);
-            steps = has_steps tight.box Dial row.backup tight.tight.steps (backup_below row listed);
-            droppable = record { row = row; listed = listed; unmet = λ can. absurd (none_meets row listed (λ meets. omega (arith, meets, short)) can) };
-          }))
+          kind = Dial;
+          side = side.lowest;
+          relay = row.backup;
+          span = span_at Dial tight.box row.backup;
+          stands = span_has tight.box Dial row.backup (backup_below row listed);
+          steps = has_steps tight.box Dial row.backup tight.tight.steps (backup_below row listed);
+          droppable = record { row = row; listed = listed; unmet = λ can. absurd (none_meets row listed (λ meets. omega (arith, meets, short)) can) };
+        }))
         | inr meets ↦ meets
       ]
 

@@ -45,12 +45,18 @@ fn judge(alloc: Global, inst: &Instance, lowest: Choice) -> Result<Outcome, NoMe
     match first_unmet(inst, &lowest) {
         Some(row) => {
             let issued = issue(alloc, inst, &lowest)?;
-            let hair = Hair { choice: lowest, row };
+            let hair = Hair {
+                choice: lowest,
+                row,
+            };
             Ok(weigh(inst, issued, hair, bound, gap))
         }
         None => {
             let cost = cost(inst, &lowest);
-            let issued = Issued { choice: lowest, cost };
+            let issued = Issued {
+                choice: lowest,
+                cost,
+            };
             Ok(Outcome::Closed { issued, bound })
         }
     }
@@ -71,13 +77,7 @@ fn issue(alloc: Global, inst: &Instance, lowest: &Choice) -> Result<Option<Issue
 }
 
 /// The ending for what is issued: closed where it costs at most the gap more than the bound, else a hairline.
-fn weigh(
-    inst: &Instance,
-    issued: Option<Issued>,
-    hair: Hair,
-    bound: u64,
-    gap: u64,
-) -> Outcome
+fn weigh(inst: &Instance, issued: Option<Issued>, hair: Hair, bound: u64, gap: u64) -> Outcome
     requires undecided { IsUndecided inst.now (option_map issued_data issued) (hair_data hair) bound }
     requires bound { bound < 10 ^ 16 }
     requires cost { IfSome issued (λ i. i.cost < 10 ^ 16) }

@@ -19,9 +19,9 @@ mod top;
 mod words;
 
 use coord_io::{DiskFolder, StdSink};
+use printing::NO_MEMORY;
 use std::env;
 use std::process::ExitCode;
-use printing::NO_MEMORY;
 use top::run;
 
 fn main(rt: HostRuntime) -> ExitCode {

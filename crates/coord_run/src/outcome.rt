@@ -19,7 +19,10 @@ pub struct Hair {
 #[derive(Drop)]
 pub enum Outcome {
     /// Settings are issued, and every allowed choice costs at least the bound.
-    Closed { issued: Issued, bound: u64 },
+    Closed {
+        issued: Issued,
+        bound: u64,
+    },
     /// No choice is allowed.
     NoSettings,
     /// The lowest settings lie between met and not met, and what is issued, if anything, costs too much to close.

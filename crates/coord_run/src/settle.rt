@@ -112,7 +112,8 @@ fn status_of(outcome: &Outcome) -> u8
         Outcome::Closed { .. } => 0,
         Outcome::NoSettings => 3,
         Outcome::Hairline {
-            issued: Some(_), ..
+            issued: Some(_),
+            ..
         } => 6,
         Outcome::Hairline { issued: None, .. } => 7,
     }

@@ -45,7 +45,11 @@ pub fn solve<F: Folder, K: Sink>(
 }
 
 /// What is to be written, found before any file is started.
-fn find<F: Folder>(alloc: Global, folder: &mut F, names: &Names<'_>) -> Result<Settlement, Stop<SolveRefusal>>
+fn find<F: Folder>(
+    alloc: Global,
+    folder: &mut F,
+    names: &Names<'_>,
+) -> Result<Settlement, Stop<SolveRefusal>>
     ensures found { IfOk result (IsFound (names_data names.now) (folder_at F.files F.read_faults F.write_faults folder.old)
         (folder_at F.files F.read_faults F.write_faults folder.new)) }
     ensures stopped { IfErr result (λ stop. StopsFor stop (SolveCause (names_data names.now)
@@ -86,11 +90,7 @@ fn put<F: Folder>(folder: &mut F, name: &str, bytes: &[u8]) -> Result<(), Failed
 }
 
 /// The line of a refusal.
-fn solve_line(
-    alloc: Global,
-    names: &Names<'_>,
-    refusal: &SolveRefusal,
-) -> Result<Vec<u8>, NoMemory>
+fn solve_line(alloc: Global, names: &Names<'_>, refusal: &SolveRefusal) -> Result<Vec<u8>, NoMemory>
     ensures { IfOk result (λ line. line.items ≡ solve_text (names_data names.now) refusal.now) }
 {
     match refusal {

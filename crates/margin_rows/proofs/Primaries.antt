@@ -74,7 +74,7 @@ module _ (case : Case) (fits : FitsStudy case.study) (line : ℕ) where
       let later : get_or case.study.relays j one.relay ≡ other.relay = get_or_from_slice_get case.study.relays j other.relay one.relay other.found in
       let together : StandTogether one.relay other.relay = record { line = one.on_line ∙ sym other.on_line; bus = same } in
       let moved : StandTogether (get_or case.study.relays i one.relay) (get_or case.study.relays j one.relay) =
-        subst (λ r. StandTogether (get_or case.study.relays i one.relay) r) (sym later) (subst (λ r. StandTogether r other.relay) (sym first) together) in
+      subst (λ r. StandTogether (get_or case.study.relays i one.relay) r) (sym later) (subst (λ r. StandTogether r other.relay) (sym first) together) in
       fits.apart i j one.relay before (slice_get_within case.study.relays j other.relay other.found) moved
 
   no_three : (a b c : ℕ) → a < b → b < c → StandsOn case line a → StandsOn case line b → StandsOn case line c → ⊥

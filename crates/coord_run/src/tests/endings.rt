@@ -180,6 +180,140 @@ fn one_relay_ends_by_its_multiple(rt: HostRuntime) -> Result<(), test::Fail> {
     Ok(())
 }
 
+/// The two relays with dials of 0.050 to 1.000, and so many of them for R1.
+fn dialled(rt: &(impl AllocGlobal + Abort), count: &'static str) -> Result<String, AllocError> {
+    changed(
+        rt,
+        &[
+            ("dial_first = 250", "dial_first = 50"),
+            ("dial_count = 1\n", count),
+            ("dial_count = 1\n", "dial_count = 20\n"),
+        ],
+    )
+}
+
+#[test]
+fn the_least_dials_are_issued(rt: HostRuntime) -> Result<(), test::Fail> {
+    // R2 at 0.050 takes 75 ms at F1, so R1 needs 375 ms, which is 0.250
+    ends(
+        &rt,
+        &dialled(&rt, "dial_count = 20\n")?,
+        CURRENTS,
+        0,
+        REPORT,
+        SHEET,
+    )?;
+    // with 0.200 at most it takes 300 ms, 225 ms more than R2
+    ends(
+        &rt,
+        &dialled(&rt, "dial_count = 4\n")?,
+        CURRENTS,
+        3,
+        "no settings boxes 1\n",
+        NO_SETTINGS,
+    )?;
+    // extremely inverse at 3 times pickup: 10 s at dial 1, so 0.8 s and 0.5 s lie 0.3 s apart
+    let inverse = changed(
+        &rt,
+        &[
+            ("iec-b", "iec-c"),
+            ("iec-b", "iec-c"),
+            ("dial_first = 250", "dial_first = 80"),
+        ],
+    )?;
+    ends(
+        &rt,
+        &inverse,
+        "fault,relay,amps\nF1,R2,300\nF1,R1,300\nF2,R1,300\n",
+        0,
+        "closed cost 1300000 bound 1300000 boxes 1\n",
+        "coord-sheet 1\nending closed\ncost 1300000\nbound 1300000\nrelay R1 plug 1.00 dial 0.080\nrelay R2 plug 1.00 dial 0.050\nend\n",
+    )?;
+    Ok(())
+}
+
+const HAIR: &str = "row F1 R1 R2 loose 200 strict -220
+relay R1 plug 1.00 dial 0.280
+relay R2 plug 1.00 dial 0.140
+";
+
+/// 270 ms is 0.140 times 13.5/7 s, the time at 8 times pickup: R2 at 0.140 and R1 at 0.280 lie that far apart exactly, but
+/// their enclosures do not show it.
+fn at_a_hairline(
+    rt: &(impl AllocGlobal + Abort),
+    first: &'static str,
+    second: &'static str,
+) -> Result<String, AllocError> {
+    changed(
+        rt,
+        &[
+            ("cti_ms = 300", "cti_ms = 270"),
+            ("dial_first = 250\ndial_step = 50\ndial_count = 1\n", first),
+            (
+                "dial_first = 50\ndial_step = 50\ndial_count = 1\n",
+                "dial_first = 140\ndial_step = 140\ndial_count = 2\n",
+            ),
+            (SECOND_FAULT, second),
+        ],
+    )
+}
+
+#[test]
+fn a_hairline_with_and_without_settings(rt: HostRuntime) -> Result<(), test::Fail> {
+    let alone = at_a_hairline(
+        &rt,
+        "dial_first = 140\ndial_step = 140\ndial_count = 2\n",
+        "",
+    )?;
+    let mut text = String::from_str(rt.alloc(), "hairline cost none bound 269999 boxes 1\n")?;
+    text.push_str(HAIR)?;
+    ends(
+        &rt,
+        &alone,
+        "fault,relay,amps\nF1,R2,800\nF1,R1,800\n",
+        7,
+        text.as_str(),
+        "coord-sheet 1\nending hairline\ncost none\nbound 269999\nend\n",
+    )?;
+
+    // with 0.420 for R1 there are settings, but they cost 0.14 * 1.5 s more
+    let issued = at_a_hairline(
+        &rt,
+        "dial_first = 140\ndial_step = 140\ndial_count = 3\n",
+        SECOND_FAULT,
+    )?;
+    let mut text = String::from_str(rt.alloc(), "hairline cost 900001 bound 689999 boxes 1\n")?;
+    text.push_str(HAIR)?;
+    ends(
+        &rt,
+        &issued,
+        "fault,relay,amps\nF1,R2,800\nF1,R1,800\nF2,R1,1000\n",
+        6,
+        text.as_str(),
+        "coord-sheet 1\nending hairline\ncost 900001\nbound 689999\nrelay R1 plug 1.00 dial 0.420\nrelay R2 plug 1.00 dial 0.140\nend\n",
+    )?;
+    Ok(())
+}
+
+#[test]
+fn pickups_that_the_first_box_leaves_out_do_not_count(rt: HostRuntime) -> Result<(), test::Fail> {
+    // 110 A is 1.10 times 1.00 A and less than 1.10 times 1.01 A
+    let mut two = String::from_str(rt.alloc(), ALONE)?;
+    two.push_str("[[relay]]\nname = \"R2\"\nline = \"AB\"\nbus = \"B\"\ncurve = \"iec-b\"\n")?;
+    two.push_str(
+        "ct_primary = 100\nct_secondary = 1\nplug_first = 100\nplug_count = 2\ndial_first = 50\n",
+    )?;
+    ends(
+        &rt,
+        two.as_str(),
+        "fault,relay,amps\nF1,R2,110\n",
+        0,
+        "closed cost 6750000 bound 6750000 boxes 1\n",
+        "coord-sheet 1\nending closed\ncost 6750000\nbound 6750000\nrelay R1 plug 1.00 dial 0.050\nrelay R2 plug 1.00 dial 0.050\nend\n",
+    )?;
+    Ok(())
+}
+
 #[test]
 fn a_table_of_another_form_says_the_same(rt: HostRuntime) -> Result<(), test::Fail> {
     for currents in [

@@ -13,7 +13,7 @@ const FAULT_LAST: [&str; 11] = ["a", "b", "c", "d", "e", "f", "g", "h", "i", "j"
 
 /// What a relay has beside its names.
 const REST: &str =
-    "curve = \"iec-b\"\nct_primary = 100\nct_secondary = 1\nplug_first = 100\ndial_first = 50\n";
+    "curve = \"iec-c\"\nct_primary = 100\nct_secondary = 1\nplug_first = 100\ndial_first = 15000\n";
 
 /// Adds the parts to the text.
 fn push_all(text: &mut String, parts: &[&str]) -> Result<(), AllocError> {
@@ -65,7 +65,12 @@ fn star(rt: &impl AllocGlobal) -> Result<String, AllocError> {
         for o in FAULT_LAST {
             push_all(
                 &mut text,
-                &["[[fault]]\nname = \"Z", t, o, "\"\nline = \"Kaa\"\n"],
+                &[
+                    "[[fault]]\nname = \"Z",
+                    t,
+                    o,
+                    "\"\nline = \"Kaa\"\nweight = 1000\n",
+                ],
             )?;
         }
     }
@@ -115,6 +120,48 @@ fn rows_and_currents_past_their_limits_are_refused(rt: HostRuntime) -> Result<()
         entries.as_str(),
         15,
         "too many: currents 8192\n",
+    )?;
+    Ok(())
+}
+
+// At 20 and 2 times pickup the times at dial 1 are 80/399 and 80/3 s: 88 faults of weight 1,000 at dial 15 cost the upper
+// ends, rounded up, and are bounded by the lower ends. One row more is one too many.
+#[test]
+fn as_many_rows_as_may_be_are_coordinated(rt: HostRuntime) -> Result<(), test::Fail> {
+    let network = star(&rt)?;
+    let mut currents = String::from_str(rt.alloc(), "fault,relay,amps\n")?;
+    for t in FAULT_FIRST {
+        for o in FAULT_LAST {
+            push_all(&mut currents, &["Z", t, o, ",Haa,2000\n"])?;
+            if t == "h" && o == "k" {
+                for w in ["a", "b", "c", "d", "e", "f", "g", "h"] {
+                    push_all(&mut currents, &["Zhk,Wa", w, ",200\n"])?;
+                }
+            } else {
+                push_entries(&mut currents, t, o, "W")?;
+            }
+        }
+    }
+    let mut folder = inputs(
+        &rt,
+        network.as_str(),
+        currents.as_str(),
+        Vec::new(rt.alloc()),
+    )?;
+    answers(
+        &rt,
+        &SOLVE,
+        &mut folder,
+        0,
+        "closed cost 35464661655720 bound 35464661653080 boxes 1\n",
+    )?;
+    currents.push_str("Zhk,Wai,200\n")?;
+    refuses(
+        &rt,
+        network.as_str(),
+        currents.as_str(),
+        15,
+        "too many: rows 4096\n",
     )?;
     Ok(())
 }

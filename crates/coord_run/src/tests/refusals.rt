@@ -80,23 +80,9 @@ fn a_network_is_refused_for_its_first_fault(rt: HostRuntime) -> Result<(), test:
             "network: unknown-key relay 1\n",
         ),
         (
-            &[("dial_count = 1", "dial_count = 20")],
-            21,
-            "not built: steps\n",
-        ),
-        (
-            &[
-                ("dial_first = 250", "dial_first = 50"),
-                ("dial_count = 1", "dial_count = 20"),
-                ("dial_count = 1", "dial_count = 20"),
-            ],
-            21,
-            "not built: steps\n",
-        ),
-        (
             &[("plug_count = 1", "plug_count = 2")],
             21,
-            "not built: steps\n",
+            "not built: pickups\n",
         ),
     ];
     for (changes, status, line) in cases {

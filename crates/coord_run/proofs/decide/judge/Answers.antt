@@ -1,5 +1,5 @@
 use Rattle.std.specs.List.{All}
-use Rattle.std.proofs.Common.{◌≡◌, ◌≤◌, ◌+◌, ℕ, arith, subst, sym}
+use Rattle.std.proofs.Common.{◌≡◌, ◌≤◌, ◌+◌, ℕ, arith, refl}
 use Rattle.std.specs.Option.{option_map}
 use Rattle.coord_model.specs.Choice.{choice_data}
 use Rattle.coord_run.specs.Outcome.{issued_data}
@@ -43,7 +43,7 @@ returns-in-None-clause-decided c =
     let lowest = choice_data c.args.lowest in
     let fits = c.lower_cost-bound.ensures.fits in
     let inside = lowest_first case lowest c.requires.tight in
-    let met : All (MeetsStrictly case lowest) (rows_in case) = c.in-None.ensures.met tt in
+    let met : All (MeetsStrictly case lowest) (rows_in case) = c.first_unmet.ensures.met (rw c.in-None.is refl) in
     record {
       is_issued = record {
         allowed = strict_is_allowed case lowest fits inside met;
@@ -61,3 +61,13 @@ returns-in-None-clause-decided c =
       is_gap = c.gap-gap.ensures.exact;
       close = omega (arith, c.cost-cost.ensures.exact, c.lower_cost-bound.ensures.exact, c.gap-gap.ensures.covers lowest inside);
     }
+
+pub returns-in-None-clause-printable : goal.returns-in-None-clause-printable
+returns-in-None-clause-printable c = record {
+  cost_goes = refl;
+  bound_goes = refl;
+  cost_short = c.cost-cost.ensures.small;
+  bound_short = c.lower_cost-bound.ensures.small;
+  issued = refl;
+  on_steps = (lowest_first c.args.inst.now (choice_data c.args.lowest) c.requires.tight).on_steps;
+}

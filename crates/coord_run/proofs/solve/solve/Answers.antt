@@ -20,5 +20,5 @@ returns-in-Err-Refused g c =
     let sink_before = sink_at g.K.Sink.written g.K.Sink.faults c.args.out.now in
     let sink_after = sink_at g.K.Sink.written g.K.Sink.faults c.refuse.new.out in
     let stopped = rw c.in-Err-Refused.field-0-is at c.in-Err-Refused.ensures.stopped in
-    refused_end (λ text. text.items) (names_data c.args.names.now) before after sink_before sink_after c.in-Err-Refused.refusal c.solve_line.result c.refuse.result
-    stopped c.in-Err-Refused.ensures.alone c.solve_line.ensures (rw (← c.solve_status.ensures) c.refuse.ensures.line) c.refuse.ensures.memory
+    refused_end (λ text. text.items) (names_data c.args.names.now) before after sink_before sink_after c.in-Err-Refused.refusal c.solve_line-line.result c.refuse.result
+    stopped c.in-Err-Refused.ensures.alone c.solve_line-line.ensures (rw (← c.solve_status.ensures) c.refuse.ensures.line) c.refuse.ensures.memory
