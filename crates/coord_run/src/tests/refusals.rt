@@ -68,7 +68,7 @@ fn a_network_is_refused_for_its_first_fault(rt: HostRuntime) -> Result<(), test:
     };
     refuses(&rt, cut, CURRENTS, 13, "network: not-toml\n")?;
 
-    let cases: [(&[(&str, &str)], u8, &str); 5] = [
+    let cases: [(&[(&str, &str)], u8, &str); 3] = [
         (
             &[("\"R2\"", "\"R1\"")],
             13,
