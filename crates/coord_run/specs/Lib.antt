@@ -3,10 +3,12 @@ pub mod Inputs
 pub mod Names
 pub mod Outcome
 pub mod Outside
+pub mod Pairs
 pub mod Reading
 pub mod Refusal
 pub mod RefusalText
 pub mod Report
+pub mod Reports
 pub mod Run
 pub mod Settlement
 pub mod Solve

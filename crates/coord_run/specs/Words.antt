@@ -24,3 +24,22 @@ solve_of (command ∷ network ∷ currents ∷ sheet ∷ []) =
     if bytes_eq command (codes "solve") && are_names network currents sheet
     then Some (record { network = network; currents = currents; sheet = sheet }) else None
 solve_of words = None
+
+-- the name of `pairs NETWORK`, if the words are that command
+unfoldable pub pairs_name_of : List (List ℕ) → Option (List ℕ)
+pairs_name_of (command ∷ network ∷ []) = if bytes_eq command (codes "pairs") && is_name network then Some network else None
+pairs_name_of words = None
+
+-- a command with the files that it names
+pub data Command : Type 0 where
+  solve : SolveNames → Command
+  pairs : List ℕ → Command
+
+-- the command that the words are, if they are one
+abbrev pub command_from : Option SolveNames → Option (List ℕ) → Option Command
+command_from None None = None
+command_from None (Some network) = Some (pairs network)
+command_from (Some names) other = Some (solve names)
+
+abbrev pub command_of : List (List ℕ) → Option Command
+command_of words = command_from (solve_of words) (pairs_name_of words)

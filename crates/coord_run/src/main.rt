@@ -1,12 +1,14 @@
 //! Coord: settings for directional overcurrent relays, coordinated and certified.
 //!
 //! `coord solve NETWORK CURRENTS SHEET` reads a network and its fault currents, and writes a settings sheet.
+//! `coord pairs NETWORK` prints which relay backs which.
 #![tactic(auto)]
 
 mod decide;
 mod fault_line;
 mod inputs;
 mod outcome;
+mod pairs;
 mod printing;
 mod refusal;
 mod refusal_line;

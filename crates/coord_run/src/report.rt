@@ -133,7 +133,7 @@ fn fault_name(study: &Study, fault: u16) -> &[u8]
 }
 
 /// The name of a relay, by its number.
-fn relay_name(study: &Study, relay: u16) -> &[u8]
+pub fn relay_name(study: &Study, relay: u16) -> &[u8]
     ensures { result.now ≡ relay_name (study_data study.now) relay }
 {
     match study.relays.get(usize::from(relay)) {

@@ -3,6 +3,7 @@
 mod endings;
 mod faults;
 mod limits;
+mod listing;
 mod refusals;
 
 use crate::top::run;

@@ -2,11 +2,12 @@
 ghost use Rattle.std.specs.Prelude.{◌≡◌, map, string_bytes};
 ghost use Rattle.coord_run.specs.Outside.{folder_at, sink_at};
 ghost use Rattle.coord_run.specs.Run.{Does, usage_text};
-ghost use Rattle.coord_run.specs.Words.{solve_of};
+ghost use Rattle.coord_run.specs.Words.{command_of};
 
+use crate::pairs::pairs;
 use crate::printing::print;
 use crate::solve::solve;
-use crate::words::solve_names;
+use crate::words::{pairs_name, solve_names};
 use coord_io::{Folder, Sink};
 use std::alloc::Global;
 
@@ -16,14 +17,21 @@ const USAGE: u8 = 2;
 /// Does what the words after the program's name ask for, and answers the status.
 ///
 /// `solve NETWORK CURRENTS SHEET` reads the network and the table of its fault currents, and writes the settings
-/// sheet. Its ending or its refusal is printed on the sink.
+/// sheet. Its ending or its refusal is printed on the sink. `pairs NETWORK` reads the network and prints its pairs.
 pub fn run<F: Folder, K: Sink>(alloc: Global, words: &[String], folder: &mut F, out: &mut K) -> u8
-    ensures { Does (solve_of (map string_bytes words.now)) (folder_at F.files F.read_faults F.write_faults folder.old)
+    ensures { Does (command_of (map string_bytes words.now)) (folder_at F.files F.read_faults F.write_faults folder.old)
         (folder_at F.files F.read_faults F.write_faults folder.new)
         (sink_at K.written K.faults out.old) (sink_at K.written K.faults out.new) result }
 {
-    match solve_names(words) {
-        Some(names) => solve(alloc, folder, out, &names),
-        None => print(out, b"usage: coord solve NETWORK CURRENTS SHEET\n", USAGE),
+    if let Some(names) = solve_names(words) {
+        return solve(alloc, folder, out, &names);
+    }
+    match pairs_name(words) {
+        Some(network) => pairs(alloc, folder, out, network),
+        None => print(
+            out,
+            b"usage: coord solve NETWORK CURRENTS SHEET, pairs NETWORK\n",
+            USAGE,
+        ),
     }
 }

@@ -2,7 +2,7 @@
 ghost use Rattle.std.specs.Prelude.{◌≡◌, ◌+◌, ◌<◌, map, length, string_bytes};
 ghost use Rattle.std.specs.Option.{option_map};
 ghost use Rattle.coord_run.specs.Names.{names_data};
-ghost use Rattle.coord_run.specs.Words.{are_names, is_name, solve_of};
+ghost use Rattle.coord_run.specs.Words.{are_names, is_name, pairs_name_of, solve_of};
 
 /// The files that `solve` names.
 #[derive(Clone, Copy)]
@@ -27,6 +27,22 @@ pub fn solve_names(words: &[String]) -> Option<Names<'_>>
     };
     if words[0].as_str() == "solve" && are_names(&names) {
         Some(names)
+    } else {
+        None
+    }
+}
+
+/// The name of `pairs NETWORK`. `None`: the words are not that command.
+#[tactic(auto, unfolding(crate::specs::Words::pairs_name_of))]
+pub fn pairs_name(words: &[String]) -> Option<&str>
+    ensures { option_map (λ name. name.now) result ≡ pairs_name_of (map string_bytes words.now) }
+{
+    if words.len() != 2 {
+        return None;
+    }
+    let network = words[1].as_str();
+    if words[0].as_str() == "pairs" && is_name(network) {
+        Some(network)
     } else {
         None
     }

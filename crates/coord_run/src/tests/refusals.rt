@@ -37,7 +37,7 @@ fn words_of_no_command_get_the_usage(rt: HostRuntime) -> Result<(), test::Fail> 
             words,
             &mut folder,
             2,
-            "usage: coord solve NETWORK CURRENTS SHEET\n",
+            "usage: coord solve NETWORK CURRENTS SHEET, pairs NETWORK\n",
         )?;
         holds(&rt, &folder, "s", OLD_SHEET);
     }

@@ -1,0 +1,101 @@
+use super::*;
+
+/// Two parallel lines from A to B with a relay at each end, and a line from B to C with one at B.
+const PARALLEL: &str = r#"format = 1
+[study]
+cti_ms = 300
+[[line]]
+name = "AB1"
+from = "A"
+to = "B"
+[[line]]
+name = "AB2"
+from = "A"
+to = "B"
+[[line]]
+name = "BC"
+from = "B"
+to = "C"
+"#;
+
+const RELAYS: [(&str, &str, &str); 5] = [
+    ("P1", "AB1", "A"),
+    ("Q1", "AB1", "B"),
+    ("P2", "AB2", "A"),
+    ("Q2", "AB2", "B"),
+    ("S", "BC", "B"),
+];
+
+/// The network of the parallel lines, and what stands behind it.
+fn parallel(rt: &(impl AllocGlobal + Abort), more: &'static str) -> Result<String, AllocError> {
+    let mut text = String::from_str(rt.alloc(), PARALLEL)?;
+    for (name, line, bus) in RELAYS {
+        text.push_str("[[relay]]\nname = \"")?;
+        text.push_str(name)?;
+        text.push_str("\"\nline = \"")?;
+        text.push_str(line)?;
+        text.push_str("\"\nbus = \"")?;
+        text.push_str(bus)?;
+        text.push_str(
+            "\"\ncurve = \"iec-b\"\nct_primary = 100\nct_secondary = 1\nplug_first = 100\ndial_first = 50\n",
+        )?;
+    }
+    text.push_str(more)?;
+    Ok(text)
+}
+
+#[test]
+fn pairs_are_listed_by_primary(rt: HostRuntime) -> Result<(), test::Fail> {
+    let network = parallel(&rt, "")?;
+    let mut folder = folder_of(&rt, &[("n", network.as_str())], Vec::new(rt.alloc()))?;
+    answers(
+        &rt,
+        &["pairs", "n"],
+        &mut folder,
+        0,
+        "primary P1 backup Q2
+primary Q1 backup P2
+primary P2 backup Q1
+primary Q2 backup P1
+primary S backup P1
+primary S backup P2
+pairs 6
+",
+    )?;
+    holds(&rt, &folder, "n", network.as_str());
+
+    let network = parallel(&rt, "[[exempt]]\nbackup = \"P1\"\nprimary = \"S\"\n")?;
+    let mut folder = folder_of(&rt, &[("n", network.as_str())], Vec::new(rt.alloc()))?;
+    answers(
+        &rt,
+        &["pairs", "n"],
+        &mut folder,
+        0,
+        "primary P1 backup Q2
+primary Q1 backup P2
+primary P2 backup Q1
+primary Q2 backup P1
+primary S backup P2
+pairs 5
+",
+    )?;
+    Ok(())
+}
+
+#[test]
+fn pairs_name_one_network(rt: HostRuntime) -> Result<(), test::Fail> {
+    let mut folder = folder_of(&rt, &[("n", "")], Vec::new(rt.alloc()))?;
+    let usage = "usage: coord solve NETWORK CURRENTS SHEET, pairs NETWORK\n";
+    answers(&rt, &["pairs"], &mut folder, 2, usage)?;
+    answers(&rt, &["pairs", "n", "m"], &mut folder, 2, usage)?;
+    answers(&rt, &["pairs", "-n"], &mut folder, 2, usage)?;
+    answers(&rt, &["pairs", "m"], &mut folder, 9, "missing: m\n")?;
+    answers(
+        &rt,
+        &["pairs", "n"],
+        &mut folder,
+        13,
+        "network: missing top 0 format\n",
+    )?;
+    Ok(())
+}
