@@ -1,2 +1,4 @@
 pub mod Parts
 pub mod Spans
+pub mod Leasts
+pub mod Totals
