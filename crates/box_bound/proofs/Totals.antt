@@ -5,6 +5,8 @@ use Rattle.std.specs.List.{sum_by}
 use Rattle.std.proofs.Common.{◌≡◌, ℕ, ◌+◌, ◌*◌, ◌^◌, ◌<◌, ◌≤◌, List, [], ◌∷◌, ◌++◌, length, arith, refl, sym, ap, ◌∙◌, subst}
 use Rattle.std.proofs.lemmas.Int.{ints}
 use Rattle.std.proofs.lemmas.List.{length_push}
+use mir.Syntax.{w128}
+use mir.Val.{SFits}
 use Rattle.coord_model.specs.declared.weights.Weight.{Weight}
 use Rattle.margin_rows.specs.Box.{Box}
 use Rattle.margin_rows.specs.Case.{Case}
@@ -47,3 +49,20 @@ sum_all case box lambda weights n sum is so_far = record {
   each = λ i below. so_far.each i (omega (arith, below, is));
   adds_up = so_far.adds_up;
 }
+
+-- how far a sum of n parts lies from 0
+pub record IsNear (n : ℕ) (z : ℤ) : Type 0 where
+  pub not_low : pos 0 ≤ℤ (z +ℤ pos (n * 2 ^ 106))
+  pub not_high : z ≤ℤ pos (2 ^ 92 + n * 2 ^ 106)
+
+pub near_more : (n : ℕ) (z least : ℤ) → IsNear n z → IsSmall least → IsNear (n + 1) (z +ℤ least)
+near_more n z least near small = record {
+  not_low = omega (arith, ints, near.not_low, small.not_low);
+  not_high = omega (arith, ints, near.not_high, small.not_high);
+}
+
+pub near_fits : (n : ℕ) (z : ℤ) → n ≤ 65536 → IsNear n z → SFits w128 z
+near_fits n z few near =
+    let low = near.not_low in
+    let high = near.not_high in
+    search (arith, ints)
