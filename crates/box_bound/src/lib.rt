@@ -14,3 +14,6 @@ mod terms;
 pub use bound::bound_of;
 pub use dual::{plain, value};
 
+
+#[cfg(test)]
+mod tests;
