@@ -1,17 +1,18 @@
 -- Weak duality: settings of the box that loosely meet every row cost at least what the dual value says.
-use Rattle.std.specs.Prelude.{slice_get, slice_index, ℤ, pos, ◌+ℤ◌, ◌-ℤ◌, ◌≤ℤ◌}
+use Rattle.std.specs.Prelude.{slice_get, slice_index, ℤ, pos, negsuc, ◌+ℤ◌, ◌-ℤ◌, ◌≤ℤ◌}
 use Rattle.std.specs.List.{sum_by, All}
-use Rattle.std.proofs.Common.{◌≡◌, ℕ, suc, ◌+◌, ◌-◌, ◌*◌, ◌<◌, ◌≤◌, List, [], ◌∷◌, length, get_or, Some, None, Option, arith, refl, sym, ap, ◌∙◌, inl, inr, subst}
+use Rattle.std.proofs.Common.{◌≡◌, ℕ, suc, ◌+◌, ◌-◌, ◌*◌, ◌/◌, ◌<◌, ◌≤◌, List, [], ◌∷◌, length, get_or, Some, None, Option, arith, refl, sym, ap, ◌∙◌, inl, inr, subst}
 use Rattle.std.specs.Option.{option_map_or, IsSomeAnd}
-use Rattle.std.proofs.Math.Nat.{mul-le-mul_left, mul-le-mul_right}
+use Rattle.std.proofs.lemmas.Nat.{le-div}
+use Rattle.std.proofs.Math.Nat.{div-mul-le_self, mul-le-mul_left, mul-le-mul_right}
 use Rattle.std.proofs.lemmas.Bool.{cases_lt}
 use Rattle.std.proofs.lemmas.Int.{ints}
 use Rattle.std.proofs.lemmas.List.Elements.{All-head, All-tail, Contains-get_or}
 use Rattle.std.proofs.lemmas.List.Sums.{sum_by-cons}
 use Rattle.std.proofs.lemmas.Option.{slice_get_within, slice_get-get_or}
-use Rattle.coord_model.specs.Allowed.{dial_of}
+use Rattle.coord_model.specs.Allowed.{IsAllowed, dial_of}
 use Rattle.coord_model.specs.Choice.{Settings}
-use Rattle.coord_model.specs.Cost.{weight_of}
+use Rattle.coord_model.specs.Cost.{CostsAtLeast, weight_of}
 use Rattle.coord_model.specs.StudyData.{StudyData}
 use Rattle.coord_model.specs.Time.{dial_at}
 use Rattle.coord_model.specs.declared.study.Relay.{Relay}
@@ -19,16 +20,18 @@ use Rattle.coord_model.specs.declared.study.Row.{Row}
 use Rattle.coord_model.specs.declared.study.Term.{Term}
 use Rattle.coord_model.specs.declared.weights.Weight.{Weight}
 use Rattle.margin_rows.specs.Box.{Box, IsIn, LiesIn, FitsBox}
-use Rattle.margin_rows.specs.Case.{Case, rows_in, terms_in}
+use Rattle.margin_rows.specs.Case.{Case, FitsCase, rows_in, terms_in}
 use Rattle.margin_rows.specs.Dial.{dial_at_step}
 use Rattle.margin_rows.specs.Margin.{interval_ps, time_of, MeetsLoosely}
-use Rattle.margin_rows.specs.Price.{least_sum}
+use Rattle.margin_rows.specs.Price.{least_sum, lower_cost_of}
 use Rattle.margin_rows.specs.Times.{time_at}
 use Rattle.margin_rows.specs.declared.span.Steps.{Steps}
-use Rattle.margin_rows.proofs.Costs.{sums_le}
+use Rattle.margin_rows.proofs.Costs.{sums_le, costs_at_least}
+use Rattle.margin_rows.proofs.Boxed.{allowed_in_first_box, set_terms}
 use Rattle.margin_rows.proofs.Listed.{term_facts, row_facts}
 use Rattle.margin_rows.proofs.Placed.{of_some}
 use Rattle.box_bound.specs.DualValue.{row_of, pickups_of, dials_of, term_part, primary_part, backup_part, gain, loss, at_dial, part, total, IsEnd, IsLeastPart, IsDualValue}
+use Rattle.box_bound.specs.LowerBound.{bound_at}
 use Rattle.box_bound.specs.Weighing.{FitWeights}
 use Rattle.box_bound.proofs.Swaps.{between, between_mixed, swap, total_le}
 
@@ -145,3 +148,21 @@ module _ (case : Case) (box : Box) (lambda : ℕ) (ws : List Weight) (settings :
         where
           atoms : (v total : ℤ) (fixed gains x y p l ps ls : ℕ) → v ≡ pos fixed +ℤ total → total ≤ℤ (pos gains -ℤ pos l) → gains ≡ x + p → x ≤ y → p ≡ ps → l ≡ ls → ps + fixed ≤ ls → v ≤ℤ pos y
           atoms v total fixed gains x y p l ps ls is under mixed scaled b c met = omega (arith, ints, is, under, mixed, scaled, b, c, met)
+
+-- allowed settings of the box cost at least the plain bound
+pub plain_costs : (case : Case) (box : Box) (settings : Settings) (value : ℤ) (bound : ℕ) → FitsCase case → FitsBox case box → LiesIn box settings → IsAllowed case.study case.currents settings
+    → value ≤ℤ pos (1 * least_sum case settings) → bound ≡ bound_at value 1 → CostsAtLeast case.study case.currents settings bound
+unfolding lower_cost_of
+plain_costs case box settings value bound limits fits lies allowed under is q n some over =
+    let inside = allowed_in_first_box case settings allowed in
+    let whole = costs_at_least case settings (set_terms case settings limits inside) q n some over in
+    let lower : bound ≤ least_sum case settings / 1000000 = below value is under in
+    let more : bound * q ≤ (least_sum case settings / 1000000) * q = mul-le-mul_right q lower in
+    omega (arith, more, whole)
+  where
+    below : (v : ℤ) → bound ≡ bound_at v 1 → v ≤ℤ pos (1 * least_sum case settings) → bound ≤ least_sum case settings / 1000000
+    below (pos v) is under =
+        let small : v ≤ least_sum case settings = omega (arith, ints, under) in
+        let falls : v / 1000000 ≤ least_sum case settings / 1000000 = le-div (v / 1000000) (least_sum case settings) 1000000 (omega arith) (omega (arith, small, div-mul-le_self v 1000000)) in
+        omega (arith, is, falls)
+    below (negsuc v) is under = omega (arith, is)

@@ -1,8 +1,12 @@
 //! The dual value of a box.
-ghost use Rattle.std.specs.Prelude.{◌≡◌, ◌<◌, ◌≤◌, ◌*◌, ◌^◌, length, sum_by};
-ghost use Rattle.margin_rows.specs.Box.{FitsBox};
-ghost use Rattle.margin_rows.specs.Case.{FitsCase};
-ghost use Rattle.margin_rows.specs.Margin.{interval_ps};
+ghost use Rattle.std.specs.Prelude.{◌≡◌, ◌<◌, ◌≤◌, ◌*◌, ◌^◌, pos, ◌<ℤ◌, ◌≤ℤ◌, length, sum_by, All};
+ghost use Rattle.coord_model.specs.Allowed.{IsAllowed};
+ghost use Rattle.coord_model.specs.Choice.{Settings};
+ghost use Rattle.coord_model.specs.Cost.{CostsAtLeast};
+ghost use Rattle.margin_rows.specs.Box.{FitsBox, LiesIn};
+ghost use Rattle.margin_rows.specs.Case.{rows_in, FitsCase};
+ghost use Rattle.margin_rows.specs.Margin.{interval_ps, MeetsLoosely};
+ghost use Rattle.margin_rows.specs.Price.{least_sum};
 ghost use Rattle.box_bound.specs.DualValue.{IsDualValue};
 ghost use Rattle.box_bound.specs.LowerBound.{IsPlainBound};
 ghost use Rattle.box_bound.specs.Weighing.{HasNoEmptySpan, FitWeights};
@@ -22,6 +26,14 @@ pub fn value(inst: &Instance, ranges: &Ranges, lambda: u32, weights: &[Weight]) 
 
     ensures exact { IsDualValue inst.now ranges.now lambda weights.now result }
     ensures limits { FitsCase inst.now }
+
+    // Weak duality: settings of the box that loosely meet every row cost at least the value over lambda.
+    ensures at_most_cost { (settings : Settings) → LiesIn ranges.now settings → All (MeetsLoosely inst.now settings) (rows_in inst.now)
+        → result ≤ℤ pos (lambda * least_sum inst.now settings) }
+
+    // So without the cost there are none where the value is above 0.
+    ensures void { lambda ≡ 0 → pos 0 <ℤ result → (settings : Settings) → LiesIn ranges.now settings
+        → ¬ (All (MeetsLoosely inst.now settings) (rows_in inst.now)) }
 {
     let mut sum = (u128::from(interval_ps(inst)) * weight_sum(weights)) as i128;
     for relay in 0..inst.study().relays.len() as u16 {
@@ -36,6 +48,8 @@ pub fn plain(inst: &Instance, ranges: &Ranges) -> u64
     requires steps { HasNoEmptySpan ranges.now }
 
     ensures exact { IsPlainBound inst.now ranges.now result }
+    ensures at_least { (settings : Settings) → LiesIn ranges.now settings → IsAllowed inst.now.study inst.now.currents settings
+        → CostsAtLeast inst.now.study inst.now.currents settings result }
 {
     bound_of(value(inst, ranges, 1, &[]), 1)
 }
