@@ -18,4 +18,4 @@ filled box settings lies = record {
 }
 
 pub returns : goal.returns
-returns c = ?
+returns c holds = filled c.args.ranges.now (choice_data c.in_ok-lowest.lowest) (c.holds.ensures.0 holds)
