@@ -1,7 +1,7 @@
 -- Weak duality: settings of the box that loosely meet every row cost at least what the dual value says.
 use Rattle.std.specs.Prelude.{slice_get, slice_index, ℤ, pos, negsuc, ◌+ℤ◌, ◌-ℤ◌, ◌≤ℤ◌}
 use Rattle.std.specs.List.{sum_by, All}
-use Rattle.std.proofs.Common.{◌≡◌, ℕ, suc, ◌+◌, ◌-◌, ◌*◌, ◌/◌, ◌<◌, ◌≤◌, List, [], ◌∷◌, length, get_or, Some, None, Option, arith, refl, sym, ap, ◌∙◌, inl, inr, subst}
+use Rattle.std.proofs.Common.{◌≡◌, ℕ, suc, ◌+◌, ◌-◌, ◌*◌, ◌/◌, ◌<◌, ◌≤◌, List, [], ◌∷◌, length, get_or, Some, None, Option, arith, refl, inl, inr, subst}
 use Rattle.std.specs.Option.{option_map_or, IsSomeAnd}
 use Rattle.std.proofs.lemmas.Nat.{le-div}
 use Rattle.std.proofs.Math.Nat.{div-mul-le_self, mul-le-mul_left, mul-le-mul_right}
@@ -16,7 +16,6 @@ use Rattle.coord_model.specs.Cost.{CostsAtLeast, weight_of}
 use Rattle.coord_model.specs.StudyData.{StudyData}
 use Rattle.coord_model.specs.Time.{dial_at}
 use Rattle.coord_model.specs.declared.study.Relay.{Relay}
-use Rattle.coord_model.specs.declared.study.Row.{Row}
 use Rattle.coord_model.specs.declared.study.Term.{Term}
 use Rattle.coord_model.specs.declared.weights.Weight.{Weight}
 use Rattle.margin_rows.specs.Box.{Box, IsIn, LiesIn, FitsBox}
@@ -30,7 +29,7 @@ use Rattle.margin_rows.proofs.Costs.{sums_le, costs_at_least}
 use Rattle.margin_rows.proofs.Boxed.{allowed_in_first_box, set_terms}
 use Rattle.margin_rows.proofs.Listed.{term_facts, row_facts}
 use Rattle.margin_rows.proofs.Placed.{of_some}
-use Rattle.box_bound.specs.DualValue.{row_of, pickups_of, dials_of, term_part, primary_part, backup_part, gain, loss, at_dial, part, total, IsEnd, IsLeastPart, IsDualValue}
+use Rattle.box_bound.specs.DualValue.{row_of, pickups_of, dials_of, term_part, primary_part, gain, loss, at_dial, part, total, IsLeastPart, IsDualValue}
 use Rattle.box_bound.specs.LowerBound.{bound_at}
 use Rattle.box_bound.specs.Weighing.{FitWeights}
 use Rattle.box_bound.proofs.Swaps.{between, between_mixed, swap, total_le}
@@ -100,7 +99,7 @@ module _ (case : Case) (box : Box) (lambda : ℕ) (ws : List Weight) (settings :
   leasts_below : (leasts : List ℤ) → LiesIn box settings → FitsBox case box → length leasts ≡ length case.study.relays
       → ((i : ℕ) → i < length case.study.relays → IsSomeAnd (slice_get leasts i) (IsLeastPart case lambda ws i (pickups_of box i) (dials_of box i)))
       → total leasts ≤ℤ (pos (between (λ i. dial_of case.study settings i * gain case lambda ws i (slice_index settings.pickup i)) 0 (length case.study.relays))
-          -ℤ pos (between (λ i. dial_of case.study settings i * loss case ws i (slice_index settings.pickup i)) 0 (length case.study.relays)))
+      -ℤ pos (between (λ i. dial_of case.study settings i * loss case ws i (slice_index settings.pickup i)) 0 (length case.study.relays)))
   leasts_below leasts lies fits count each =
       let g = λ (i : ℕ). dial_of case.study settings i * gain case lambda ws i (slice_index settings.pickup i) in
       let l = λ (i : ℕ). dial_of case.study settings i * loss case ws i (slice_index settings.pickup i) in

@@ -1,7 +1,7 @@
 -- The spans of a filled box as the code reads them.
 use Rattle.std.specs.Prelude.{slice_get}
 use Rattle.std.specs.Option.{IsSomeAnd}
-use Rattle.std.proofs.Common.{◌≡◌, ℕ, suc, ◌<◌, ◌≤◌, List, length, arith, sym, subst}
+use Rattle.std.proofs.Common.{◌≡◌, ℕ, suc, ◌<◌, arith, sym, subst}
 use Rattle.std.proofs.lemmas.Option.{get_or_from_slice_get}
 use Rattle.margin_rows.specs.Box.{Box, IsIn, IsShownAs, IsDialStep}
 use Rattle.margin_rows.specs.Case.{Case}

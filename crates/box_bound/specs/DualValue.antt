@@ -1,7 +1,7 @@
 -- The dual value of a box (ours), in picoseconds times lambda: the coordination interval as often as the weights say,
 -- and for each relay the least that its times count, over its pickup steps and the two ends of its dials. A time counts
 -- for its cost times lambda, and for the rows by their weights: with the primary's lower end, against the backup's upper end.
-use Rattle.std.specs.Prelude.{◌≡◌, ℕ, suc, ◌+◌, ◌-◌, ◌*◌, ◌<◌, ◌==◌, ◌⊎◌, ℤ, pos, ◌+ℤ◌, ◌-ℤ◌, ◌≤ℤ◌, List, [], ◌∷◌, length, sum_by, slice_get, slice_index_or, IsSomeAnd, if◌then◌else◌}
+use Rattle.std.specs.Prelude.{◌≡◌, ℕ, suc, ◌+◌, ◌*◌, ◌<◌, ◌==◌, ◌⊎◌, ℤ, pos, ◌+ℤ◌, ◌-ℤ◌, ◌≤ℤ◌, List, [], ◌∷◌, length, sum_by, slice_get, slice_index_or, IsSomeAnd, if◌then◌else◌}
 use Rattle.coord_model.specs.Cost.{weight_of}
 use Rattle.coord_model.specs.declared.study.Row.{Row}
 use Rattle.coord_model.specs.declared.study.Term.{Term}

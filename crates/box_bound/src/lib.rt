@@ -14,6 +14,5 @@ mod terms;
 pub use bound::bound_of;
 pub use dual::{plain, value};
 
-
 #[cfg(test)]
 mod tests;

@@ -12,6 +12,7 @@ mod studies;
 use studies::{parallel_lines, two_lines};
 
 const FIRST_ROW: Weight = Weight { row: 0, weight: 1 };
+
 const SECOND_ROW: Weight = Weight { row: 1, weight: 1 };
 
 // At multiple 10 each relay takes 1.5 s. The backup's part is least at its high dial: 300 + 0.050 * 1500 - 1.000 * 1500 ms.

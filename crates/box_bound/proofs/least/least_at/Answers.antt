@@ -1,9 +1,8 @@
-use Rattle.std.specs.Prelude.{ℤ}
-use Rattle.std.proofs.Common.{◌≡◌, ◌⊎◌, rules, subst, sym}
+use Rattle.std.proofs.Common.{rules}
 use Rattle.std.proofs.lemmas.Int.{to_z-of_z}
 use mir.Syntax.{w128}
 use mir.Val.{SFits}
-use Rattle.box_bound.specs.DualValue.{dials_of, IsLeastPart}
+use Rattle.box_bound.specs.DualValue.{dials_of}
 use Rattle.box_bound.proofs.Leasts.{IsSmall, IsLesser, lesser_read, picked_small, at_dial_small, part_read, least_of_ends}
 use Rattle.box_bound.proofs.Spans.{dials_read, low_is_step, high_is_step}
 use Rattle.box_bound.proofs.least.least_at.Goals as goal

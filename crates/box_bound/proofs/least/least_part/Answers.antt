@@ -1,12 +1,12 @@
 use Rattle.std.specs.Prelude.{ℤ}
-use Rattle.std.proofs.Common.{◌≡◌, ℕ, ◌+◌, ◌<◌, ◌⊎◌, arith, refl, rules, subst, sym}
+use Rattle.std.proofs.Common.{ℕ, ◌+◌, ◌<◌, arith, refl, rules, subst}
 use Rattle.std.proofs.lemmas.Int.{to_z-of_z}
 use mir.Syntax.{w128}
 use mir.Val.{SFits}
 use Rattle.margin_rows.specs.FirstBox.{IsFirstStep}
 use Rattle.margin_rows.proofs.Spanned.{first_step_small}
 use Rattle.box_bound.specs.DualValue.{pickups_of, dials_of, IsLeastPart}
-use Rattle.box_bound.proofs.Leasts.{IsSmall, IsLesser, lesser_read, picked_small, least_more, least_whole}
+use Rattle.box_bound.proofs.Leasts.{lesser_read, picked_small, least_more, least_whole}
 use Rattle.box_bound.proofs.Spans.{IsSpanRead, pickups_read, low_is_step, high_is_step}
 use Rattle.box_bound.proofs.least.least_part.Goals as goal
 use Rattle.box_bound.proofs.least.least_part.Goals.{After-pickup-span}

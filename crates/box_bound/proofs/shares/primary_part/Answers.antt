@@ -1,4 +1,4 @@
-use Rattle.std.proofs.Common.{◌≡◌, ◌*◌, ◌<◌, ◌∙◌, ℕ, arith, ap, get_or, length, sym, subst}
+use Rattle.std.proofs.Common.{◌≡◌, ◌∙◌, ℕ, arith, ap, get_or, sym, subst}
 use Rattle.std.specs.Prelude.{slice_get}
 use Rattle.coord_model.specs.declared.study.Row.{Row}
 use Rattle.margin_rows.specs.Case.{rows_in}

@@ -1,4 +1,4 @@
-use Rattle.std.proofs.Common.{◌<◌, ◌≤◌, arith, ap, length, refl, List}
+use Rattle.std.proofs.Common.{◌<◌, arith, ap, length, refl, List}
 use Rattle.coord_model.specs.declared.study.Term.{Term}
 use Rattle.margin_rows.specs.Case.{terms_in}
 use Rattle.margin_rows.proofs.Placed.{part_more, terms_few}
