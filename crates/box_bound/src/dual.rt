@@ -18,7 +18,7 @@ use margin_rows::{Instance, Ranges};
 
 /// The dual value of a box, in picoseconds times `lambda`.
 ///
-/// `lambda` weighs the cost, `weights` the margins of rows.
+/// `lambda` weighs the cost, `weights` the margins of rows: at most 64, each of a row. No span of the box is empty.
 pub fn value(inst: &Instance, ranges: &Ranges, lambda: u32, weights: &[Weight]) -> i128
     requires fits { FitsBox inst.now ranges.now }
     requires steps { HasNoEmptySpan ranges.now }
@@ -42,7 +42,8 @@ pub fn value(inst: &Instance, ranges: &Ranges, lambda: u32, weights: &[Weight]) 
     sum
 }
 
-/// The plain bound of a box, in whole weighted microseconds: that of its dual value without weights, rounded down.
+/// The plain bound of a box without an empty span, in whole weighted microseconds: that of its dual value at lambda 1
+/// and without weights, rounded down.
 pub fn plain(inst: &Instance, ranges: &Ranges) -> u64
     requires fits { FitsBox inst.now ranges.now }
     requires steps { HasNoEmptySpan ranges.now }
