@@ -1,0 +1,9 @@
+use Rattle.box_bound.specs.DualValue.{pickups_of, dials_of, IsLeastPart}
+use Rattle.box_bound.proofs.Leasts.{IsSmall}
+use Rattle.box_bound.proofs.least.least_part.Given as goal
+
+abbrev pub invariant-loop-step : goal.invariant-loop-step
+invariant-loop-step l = record {
+  least : IsLeastPart l.inst l.lambda l.weights l.relay (record { low = (pickups_of l.ranges l.relay).low; past = l.step }) (dials_of l.ranges l.relay) l.least;
+  small : IsSmall l.least;
+}

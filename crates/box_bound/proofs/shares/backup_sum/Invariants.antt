@@ -1,0 +1,10 @@
+use Rattle.std.proofs.Common.{◌≡◌, ◌≤◌, ◌*◌, ◌^◌, take}
+use Rattle.std.specs.List.{sum_by}
+use Rattle.box_bound.specs.DualValue.{backup_part}
+use Rattle.box_bound.proofs.shares.backup_sum.Given as goal
+
+abbrev pub invariant-loop-weight : goal.invariant-loop-weight
+invariant-loop-weight l = record {
+  sum : l.sum ≡ sum_by (backup_part l.inst l.relay l.step) (take l.weight-index l.weights);
+  few : l.sum ≤ l.weight-index * 2 ^ 72;
+}

@@ -1,0 +1,77 @@
+-- The dual value of a box (ours), in picoseconds times lambda: the coordination interval as often as the weights say,
+-- and for each relay the least that its times count, over its pickup steps and the two ends of its dials. A time counts
+-- for its cost times lambda, and for the rows by their weights: with the primary's lower end, against the backup's upper end.
+use Rattle.std.specs.Prelude.{◌≡◌, ℕ, suc, ◌+◌, ◌*◌, ◌<◌, ◌==◌, ◌⊎◌, ℤ, pos, ◌+ℤ◌, ◌-ℤ◌, ◌≤ℤ◌, List, [], ◌∷◌, length, sum_by, slice_get, slice_index_or, IsSomeAnd, if◌then◌else◌}
+use Rattle.coord_model.specs.Cost.{weight_of}
+use Rattle.coord_model.specs.declared.study.Row.{Row}
+use Rattle.coord_model.specs.declared.study.Term.{Term}
+use Rattle.coord_model.specs.declared.weights.Weight.{Weight}
+use Rattle.margin_rows.specs.Box.{Box, IsIn}
+use Rattle.margin_rows.specs.Case.{Case, rows_in, terms_in}
+use Rattle.margin_rows.specs.Dial.{dial_at_step}
+use Rattle.margin_rows.specs.Margin.{interval_ps}
+use Rattle.margin_rows.specs.Times.{time_at}
+use Rattle.margin_rows.specs.declared.span.Steps.{Steps}
+
+-- the row with a number
+abbrev pub row_of : Case → ℕ → Row
+row_of case number = slice_index_or (rows_in case) number (record { fault = 0; backup = 0; primary = 0 })
+
+-- the pickup steps of relay i, and its dial steps
+abbrev pub pickups_of : Box → ℕ → Steps
+pickups_of box i = slice_index_or box.pickup i (record { low = 0; past = 0 })
+
+abbrev pub dials_of : Box → ℕ → Steps
+dials_of box i = slice_index_or box.dial i (record { low = 0; past = 0 })
+
+-- the weighted time of relay i at a pickup step, where the term is its own
+abbrev pub term_part : Case → ℕ → ℕ → Term → ℕ
+term_part case i step term =
+    if term.relay == i then weight_of case.study term.fault * (time_at case term.fault i step).lower else 0
+
+-- the time of relay i by the weight of a row, where the relay is the row's primary
+abbrev pub primary_part : Case → ℕ → ℕ → Weight → ℕ
+primary_part case i step w =
+    let row = row_of case w.row in if row.primary == i then w.weight * (time_at case row.fault i step).lower else 0
+
+-- the time of relay i by the weight of a row, where the relay is the row's backup
+abbrev pub backup_part : Case → ℕ → ℕ → Weight → ℕ
+backup_part case i step w =
+    let row = row_of case w.row in if row.backup == i then w.weight * (time_at case row.fault i step).upper else 0
+
+-- what a unit of relay i's dial adds: lambda for its terms, and the weights of the rows where it is the primary
+abbrev pub gain : Case → ℕ → List Weight → ℕ → ℕ → ℕ
+gain case lambda weights i step = lambda * sum_by (term_part case i step) (terms_in case) + sum_by (primary_part case i step) weights
+
+-- what a unit of relay i's dial takes away: the weights of the rows where it is the backup
+abbrev pub loss : Case → List Weight → ℕ → ℕ → ℕ
+loss case weights i step = sum_by (backup_part case i step) weights
+
+-- a gain less a loss, at a dial
+abbrev pub at_dial : ℕ → ℕ → ℕ → ℤ
+at_dial dial gained lost = pos (dial * gained) -ℤ pos (dial * lost)
+
+-- the part of relay i in the dual value, at a pickup step and a dial step
+abbrev pub part : Case → ℕ → List Weight → ℕ → ℕ → ℕ → ℤ
+part case lambda weights i step dial = at_dial (dial_at_step case.study i dial) (gain case lambda weights i step) (loss case weights i step)
+
+-- the step is the first or the last of a span
+abbrev pub IsEnd : Steps → ℕ → Type 0
+IsEnd span step = (step ≡ span.low) ⊎ (suc step ≡ span.past)
+
+-- the least part of relay i over these pickup steps and the two ends of these dial steps: none is less, and one is it
+pub record IsLeastPart (case : Case) (lambda : ℕ) (weights : List Weight) (i : ℕ) (pickups dials : Steps) (least : ℤ) : Type 0 where
+  pub none_less : (step dial : ℕ) → IsIn pickups step → IsEnd dials dial → least ≤ℤ part case lambda weights i step dial
+  pub one : (step : ℕ) × (dial : ℕ) × IsIn pickups step × IsEnd dials dial × (least ≡ part case lambda weights i step dial)
+
+-- the sum of whole numbers
+abbrev pub total : List ℤ → ℤ
+total [] = pos 0
+total (z ∷ zs) = z +ℤ total zs
+
+-- the dual value: the interval as often as the weights say, and the least part of each relay
+pub record IsDualValue (case : Case) (box : Box) (lambda : ℕ) (weights : List Weight) (value : ℤ) : Type 0 where
+  pub leasts : List ℤ
+  pub count : length leasts ≡ length case.study.relays
+  pub each : (i : ℕ) → i < length case.study.relays → IsSomeAnd (slice_get leasts i) (IsLeastPart case lambda weights i (pickups_of box i) (dials_of box i))
+  pub adds_up : value ≡ pos (interval_ps case.study * sum_by (λ w. w.weight) weights) +ℤ total leasts

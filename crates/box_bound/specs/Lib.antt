@@ -1,0 +1,3 @@
+pub mod DualValue
+pub mod LowerBound
+pub mod Weighing

@@ -1,0 +1,18 @@
+//! The dual value of a box, and the bound on the cost that follows from it.
+//!
+//! Dual values are in picoseconds times lambda, bounds in whole weighted microseconds. The weights are taken as they
+//! are: which of them give a good bound is left to others.
+#![tactic(auto)]
+
+mod bound;
+mod coefficient;
+mod dual;
+mod least;
+mod shares;
+mod terms;
+
+pub use bound::bound_of;
+pub use dual::{plain, value};
+
+#[cfg(test)]
+mod tests;
