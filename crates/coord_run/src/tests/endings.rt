@@ -35,7 +35,7 @@ line = "AB"
 const NO_SETTINGS: &str = "coord-sheet 1\nending no-settings\ncost none\nbound none\nend\n";
 
 /// Asserts that the network and the currents end so: the status, what is printed, and the sheet.
-fn ends(
+pub fn ends(
     rt: &(impl AllocGlobal + Abort),
     network: &str,
     currents: &str,
@@ -295,21 +295,33 @@ fn a_hairline_with_and_without_settings(rt: HostRuntime) -> Result<(), test::Fai
     Ok(())
 }
 
+/// The relay alone, with these lines behind its first plug.
+fn alone(rt: &(impl AllocGlobal + Abort), plugs: &'static str) -> Result<String, AllocError> {
+    let Some((before, after)) = ALONE.split_once("dial_first") else {
+        panic!(rt; "the relay has a dial");
+    };
+    Ok(format!(in rt.alloc(); "{before}{plugs}dial_first{after}")?)
+}
+
 #[test]
-fn pickups_that_the_first_box_leaves_out_do_not_count(rt: HostRuntime) -> Result<(), test::Fail> {
-    // 110 A is 1.10 times 1.00 A and less than 1.10 times 1.01 A
-    let mut two = String::from_str(rt.alloc(), ALONE)?;
-    two.push_str("[[relay]]\nname = \"R2\"\nline = \"AB\"\nbus = \"B\"\ncurve = \"iec-b\"\n")?;
-    two.push_str(
-        "ct_primary = 100\nct_secondary = 1\nplug_first = 100\nplug_count = 2\ndial_first = 50\n",
-    )?;
+fn the_first_box_leaves_pickups_out(rt: HostRuntime) -> Result<(), test::Fail> {
+    // 110 A is 1.10 times 1.00 A and less than 1.10 times 1.01 A, so one plug is left: 135 s times 0.050
     ends(
         &rt,
-        two.as_str(),
-        "fault,relay,amps\nF1,R2,110\n",
+        &alone(&rt, "plug_step = 1\nplug_count = 2\n")?,
+        "fault,relay,amps\nF1,R1,110\n",
         0,
         "closed cost 6750000 bound 6750000 boxes 1\n",
-        "coord-sheet 1\nending closed\ncost 6750000\nbound 6750000\nrelay R1 plug 1.00 dial 0.050\nrelay R2 plug 1.00 dial 0.050\nend\n",
+        "coord-sheet 1\nending closed\ncost 6750000\nbound 6750000\nrelay R1 plug 1.00 dial 0.050\nend\n",
+    )?;
+    // a load of 500 A needs 600 A, and the pickup is 200 A at most
+    ends(
+        &rt,
+        &alone(&rt, "plug_step = 100\nplug_count = 2\nload_amps = 500\n")?,
+        "fault,relay,amps\nF1,R1,1000\n",
+        3,
+        "no settings boxes 1\n",
+        NO_SETTINGS,
     )?;
     Ok(())
 }

@@ -1,165 +1,139 @@
+use super::endings::ends;
 use super::refusals::refuses;
 use super::*;
-
-/// 48 names of two letters end in these.
-const FIRST: [&str; 4] = ["a", "b", "c", "d"];
-
-const LAST: [&str; 12] = ["a", "b", "c", "d", "e", "f", "g", "h", "i", "j", "k", "l"];
-
-/// 88 names of two letters end in these.
-const FAULT_FIRST: [&str; 8] = ["a", "b", "c", "d", "e", "f", "g", "h"];
-
-const FAULT_LAST: [&str; 11] = ["a", "b", "c", "d", "e", "f", "g", "h", "i", "j", "k"];
 
 /// What a relay has beside its names.
 const REST: &str =
     "curve = \"iec-c\"\nct_primary = 100\nct_secondary = 1\nplug_first = 100\ndial_first = 15000\n";
 
-/// Adds the parts to the text.
-fn push_all(text: &mut String, parts: &[&str]) -> Result<(), AllocError> {
-    for part in parts {
-        text.push_str(*part)?;
-    }
-    Ok(())
-}
+/// The lines, and the faults on them in turn.
+const LINES: u32 = 48;
 
-/// 48 lines from one bus with a relay at both ends, and 88 faults on the first.
+const FAULTS: u32 = 88;
+
+/// 48 lines from one bus with a relay at both ends, and 88 faults on the lines in turn.
 fn star(rt: &impl AllocGlobal) -> Result<String, AllocError> {
     let mut text = String::from_str(rt.alloc(), "format = 1\n[study]\ncti_ms = 300\n")?;
-    for t in FIRST {
-        for o in LAST {
-            push_all(
-                &mut text,
-                &[
-                    "[[line]]\nname = \"K",
-                    t,
-                    o,
-                    "\"\nfrom = \"H\"\nto = \"E",
-                    t,
-                    o,
-                    "\"\n",
-                    "[[relay]]\nname = \"H",
-                    t,
-                    o,
-                    "\"\nline = \"K",
-                    t,
-                    o,
-                    "\"\nbus = \"H\"\n",
-                    REST,
-                    "[[relay]]\nname = \"W",
-                    t,
-                    o,
-                    "\"\nline = \"K",
-                    t,
-                    o,
-                    "\"\nbus = \"E",
-                    t,
-                    o,
-                    "\"\n",
-                    REST,
-                ],
-            )?;
-        }
+    for j in 1..LINES + 1 {
+        push_line(rt, &mut text, j)?;
+        push_relay(rt, &mut text, "H", j, "H")?;
+        let far = format!(in rt.alloc(); "E{j}")?;
+        push_relay(rt, &mut text, "W", j, &far)?;
     }
-    for t in FAULT_FIRST {
-        for o in FAULT_LAST {
-            push_all(
-                &mut text,
-                &[
-                    "[[fault]]\nname = \"Z",
-                    t,
-                    o,
-                    "\"\nline = \"Kaa\"\nweight = 1000\n",
-                ],
-            )?;
-        }
+    for i in 1..FAULTS + 1 {
+        let line = line_of(i);
+        let fault = format!(in rt.alloc();
+            "[[fault]]\nname = \"Z{i}\"\nline = \"K{line}\"\nweight = 1000\n"
+        )?;
+        text.push_str(&fault)?;
     }
     Ok(text)
 }
 
-/// Adds entries at the fault for the relays of this letter at all lines.
-fn push_entries(
+/// Adds a line from the bus H.
+fn push_line(rt: &impl AllocGlobal, text: &mut String, j: u32) -> Result<(), AllocError> {
+    let line = format!(in rt.alloc(); "[[line]]\nname = \"K{j}\"\nfrom = \"H\"\nto = \"E{j}\"\n")?;
+    text.push_str(&line)
+}
+
+/// Adds a relay on a line.
+fn push_relay(
+    rt: &impl AllocGlobal,
     text: &mut String,
-    first: &'static str,
-    last: &'static str,
-    relays: &'static str,
+    letter: &str,
+    j: u32,
+    bus: &str,
 ) -> Result<(), AllocError> {
-    for t in FIRST {
-        for o in LAST {
-            push_all(text, &["Z", first, last, ",", relays, t, o, ",200\n"])?;
-        }
+    let relay = format!(in rt.alloc();
+        "[[relay]]\nname = \"{letter}{j}\"\nline = \"K{j}\"\nbus = \"{bus}\"\n"
+    )?;
+    text.push_str(&relay)?;
+    text.push_str(REST)
+}
+
+/// The line of a fault.
+fn line_of(fault: u32) -> u32 {
+    fault.saturating_sub(1) % LINES + 1
+}
+
+/// The currents of the star: at each fault both relays of its line, and the far relays of the others that back the near
+/// one. At the last fault only the first `last` of them.
+fn star_currents(rt: &impl AllocGlobal, last: u32) -> Result<String, AllocError> {
+    let mut text = String::from_str(rt.alloc(), "fault,relay,amps\n")?;
+    for i in 1..FAULTS + 1 {
+        let line = line_of(i);
+        let own = format!(in rt.alloc(); "Z{i},H{line},2000\nZ{i},W{line},200\n")?;
+        text.push_str(&own)?;
+        push_others(
+            rt,
+            &mut text,
+            i,
+            line,
+            if i == FAULTS { last } else { LINES },
+        )?;
+    }
+    Ok(text)
+}
+
+/// Adds the currents at a fault of the far relays of the lines up to `last`, other than its own line.
+fn push_others(
+    rt: &impl AllocGlobal,
+    text: &mut String,
+    fault: u32,
+    line: u32,
+    last: u32,
+) -> Result<(), AllocError> {
+    for k in (1..LINES + 1).filter(|k| *k != line && *k <= last) {
+        let entry = format!(in rt.alloc(); "Z{fault},W{k},200\n")?;
+        text.push_str(&entry)?;
     }
     Ok(())
 }
 
 #[test]
-fn rows_and_currents_past_their_limits_are_refused(rt: HostRuntime) -> Result<(), test::Fail> {
+fn currents_past_their_limit_are_refused(rt: HostRuntime) -> Result<(), test::Fail> {
     let network = star(&rt)?;
-    // each fault has 47 rows, of the first line's relay and the far relays of the other lines: 4,136
-    let mut rows = String::from_str(rt.alloc(), "fault,relay,amps\n")?;
     // 96 entries at each fault: 8,448
     let mut entries = String::from_str(rt.alloc(), "fault,relay,amps\n")?;
-    for t in FAULT_FIRST {
-        for o in FAULT_LAST {
-            push_all(&mut rows, &["Z", t, o, ",Haa,2000\n"])?;
-            push_entries(&mut rows, t, o, "W")?;
-            push_entries(&mut entries, t, o, "H")?;
-            push_entries(&mut entries, t, o, "W")?;
+    for i in 1..FAULTS + 1 {
+        for j in 1..LINES + 1 {
+            let both = format!(in rt.alloc(); "Z{i},H{j},200\nZ{i},W{j},200\n")?;
+            entries.push_str(&both)?;
         }
     }
-    refuses(
-        &rt,
-        network.as_str(),
-        rows.as_str(),
-        15,
-        "too many: rows 4096\n",
-    )?;
-    refuses(
-        &rt,
-        network.as_str(),
-        entries.as_str(),
-        15,
-        "too many: currents 8192\n",
-    )?;
+    refuses(&rt, &network, &entries, 15, "too many: currents 8192\n")?;
     Ok(())
 }
 
 // At 20 and 2 times pickup the times at dial 1 are 80/399 and 80/3 s: 88 faults of weight 1,000 at dial 15 cost the upper
-// ends, rounded up, and are bounded by the lower ends. One row more is one too many.
+// ends, rounded up, and are bounded by the lower ends. The last fault is on line 40. With seven rows at it there are
+// 87 * 47 + 7 = 4,096; one row more is one too many.
 #[test]
 fn as_many_rows_as_may_be_are_coordinated(rt: HostRuntime) -> Result<(), test::Fail> {
     let network = star(&rt)?;
-    let mut currents = String::from_str(rt.alloc(), "fault,relay,amps\n")?;
-    for t in FAULT_FIRST {
-        for o in FAULT_LAST {
-            push_all(&mut currents, &["Z", t, o, ",Haa,2000\n"])?;
-            if t == "h" && o == "k" {
-                for w in ["a", "b", "c", "d", "e", "f", "g", "h"] {
-                    push_all(&mut currents, &["Zhk,Wa", w, ",200\n"])?;
-                }
-            } else {
-                push_entries(&mut currents, t, o, "W")?;
-            }
-        }
-    }
-    let mut folder = inputs(
-        &rt,
-        network.as_str(),
-        currents.as_str(),
-        Vec::new(rt.alloc()),
+    let mut sheet = String::from_str(
+        rt.alloc(),
+        "coord-sheet 1\nending closed\ncost 35464661655720\nbound 35464661653080\n",
     )?;
-    answers(
+    for j in 1..LINES + 1 {
+        let both = format!(in rt.alloc();
+            "relay H{j} plug 1.00 dial 15.000\nrelay W{j} plug 1.00 dial 15.000\n"
+        )?;
+        sheet.push_str(&both)?;
+    }
+    sheet.push_str("end\n")?;
+    ends(
         &rt,
-        &SOLVE,
-        &mut folder,
+        &network,
+        &star_currents(&rt, 7)?,
         0,
         "closed cost 35464661655720 bound 35464661653080 boxes 1\n",
+        &sheet,
     )?;
-    currents.push_str("Zhk,Wai,200\n")?;
     refuses(
         &rt,
-        network.as_str(),
-        currents.as_str(),
+        &network,
+        &star_currents(&rt, 8)?,
         15,
         "too many: rows 4096\n",
     )?;
