@@ -114,6 +114,15 @@ fn rows_and_currents_past_their_limits_are_refused(rt: HostRuntime) -> Result<()
         15,
         "too many: rows 4096\n",
     )?;
+    let files = [("n", network.as_str()), ("t", rows.as_str())];
+    let mut folder = folder_of(&rt, &files, Vec::new(rt.alloc()))?;
+    answers(
+        &rt,
+        &["margins", "n", "t", "s"],
+        &mut folder,
+        15,
+        "too many: rows 4096\n",
+    )?;
     refuses(
         &rt,
         network.as_str(),
