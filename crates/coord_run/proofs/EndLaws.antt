@@ -4,39 +4,17 @@ use Rattle.coord_io.proofs.Goings.{goes_on}
 use Rattle.coord_io.specs.Faults.{Rose}
 use Rattle.coord_io.specs.Files.{Becomes, Files, StaysOrPart}
 use Rattle.coord_io.specs.Goes.{Goes}
-use Rattle.coord_run.specs.Inputs.{AreInputs}
 use Rattle.coord_run.specs.Outcome.{outcome_status}
-use Rattle.coord_run.specs.Outside.{Folder, IsReadAlone, Prints, Sink, Told}
-use Rattle.coord_run.specs.Reading.{InputsCause}
+use Rattle.coord_run.specs.Outside.{Folder, IsReadAlone, Prints, Sink}
 use Rattle.coord_run.specs.Settlement.{HandsOver, IsFound}
-use Rattle.coord_run.specs.Solve.{CaseCause, IsSettled, SolveCause, Solves, no_memory, refused, settled, unwritten}
+use Rattle.coord_run.specs.Solve.{IsSettled, SolveCause, Solves, no_memory, refused, settled, unwritten}
 use Rattle.coord_run.specs.SolveRefusal.{solve_status, solve_text}
-use Rattle.coord_run.specs.Stops.{StopsFor, within}
-use Rattle.coord_run.specs.Words.{SolveNames}
-use Rattle.coord_run.specs.declared.refusal.CaseRefusal.{CaseRefusal}
-use Rattle.coord_run.specs.declared.refusal.InputsRefusal.{InputsRefusal}
+use Rattle.coord_run.specs.Words.{FileNames}
 use Rattle.coord_run.specs.declared.refusal.SolveRefusal.{SolveRefusal}
-use Rattle.coord_run.specs.declared.refusal.SolveRefusal.TheVariants.{Inputs, Uncoordinated}
-use Rattle.coord_run.specs.declared.refusal.Stop.{Stop}
-use Rattle.coord_run.specs.declared.refusal.Stop.TheVariants as stop
 use Rattle.coord_run.specs.declared.settle.Settlement.{Settlement}
-use Rattle.margin_rows.specs.Case.{Case}
-
--- a refusal of the case that was read has its cause
-pub case_stops : (names : SolveNames) (before after : Folder) (case : Case) (stop : Stop CaseRefusal)
-    → Told before after (λ m. AreInputs m names.network names.currents case.study case.currents)
-    → StopsFor stop (CaseCause case) → StopsFor (within Uncoordinated stop) (SolveCause names before after)
-case_stops names before after case stop.NoMemory read cause = tt
-case_stops names before after case (stop.Refused refusal) read cause = (case, read, cause)
-
--- and of the inputs
-pub inputs_stops : (names : SolveNames) (before after : Folder) (stop : Stop InputsRefusal)
-    → StopsFor stop (InputsCause before after names.network names.currents) → StopsFor (within Inputs stop) (SolveCause names before after)
-inputs_stops names before after stop.NoMemory cause = tt
-inputs_stops names before after (stop.Refused refusal) cause = cause
 
 -- the outcome of texts that were found, and its case, over the writing too
-settled_as : (names : SolveNames) (before between after : Folder) (s : Settlement) (found : IsFound names before between s) (step : Files → Files → Type 0)
+settled_as : (names : FileNames) (before between after : Folder) (s : Settlement) (found : IsFound names before between s) (step : Files → Files → Type 0)
     → Goes between.files after.files step → IsSettled names before after found.case found.outcome
 settled_as names before between after s found step went = record {
   inputs = goes_on (λ l m n holds moved. holds) found.settled.inputs went;
@@ -44,7 +22,7 @@ settled_as names before between after s found step went = record {
 }
 
 -- where the texts that were found are handed over, `solve` ends so
-pub handed_end : (names : SolveNames) (before between after : Folder) (sink_before sink_after : Sink) (s : Settlement) (status : ℕ)
+pub handed_end : (names : FileNames) (before between after : Folder) (sink_before sink_after : Sink) (s : Settlement) (status : ℕ)
     → IsFound names before between s → IsReadAlone before between → HandsOver names.sheet s between after sink_before sink_after status
     → Solves names before after sink_before sink_after status
 handed_end names before between after sink_before sink_after s status found alone (inl whole) = record {
@@ -67,7 +45,7 @@ handed_end names before between after sink_before sink_after s status found alon
 }
 
 -- where a refusal is printed, `solve` ends so
-pub refused_end : {X E : Type 0} (items : X → List ℕ) (names : SolveNames) (before after : Folder) (sink_before sink_after : Sink) (refusal : SolveRefusal) (line : Result X E) (status : ℕ)
+pub refused_end : {X E : Type 0} (items : X → List ℕ) (names : FileNames) (before after : Folder) (sink_before sink_after : Sink) (refusal : SolveRefusal) (line : Result X E) (status : ℕ)
     → SolveCause names before after refusal → IsReadAlone before after → IfOk line (λ text. items text ≡ solve_text names refusal)
     → IfOk line (λ text. Prints (items text) (solve_status refusal) sink_before sink_after status) → IfErr line (λ _. (status ≡ 30) × (sink_after ≡ sink_before))
     → Solves names before after sink_before sink_after status

@@ -1,6 +1,9 @@
 pub mod EndLaws
 pub mod EndingLaws
+pub mod MarginsLaws
 pub mod ReadingLaws
 pub mod ReportLaws
+pub mod RowLaws
+pub mod SettingsLaws
 pub mod StepLaws
 pub mod TightLaws

@@ -1,14 +1,14 @@
 -- The lowest settings of the tight box, where each relay has one pickup step in the first box.
 use Rattle.std.specs.Prelude.{slice_get, slice_index}
-use Rattle.std.specs.List.{All, Contains, sum_by}
-use Rattle.std.specs.Option.{IfSome, option_map_or}
+use Rattle.std.specs.List.{All, Contains}
+use Rattle.std.specs.Option.{option_map_or}
 use Rattle.std.proofs.Common.{◌≡◌, ℕ, ◌+◌, ◌*◌, ◌<◌, ◌≤◌, List, length, get_or, Some, None, Option, arith, refl, sym, ap, ◌∙◌, subst, inl, inr}
 use Rattle.std.proofs.Math.Nat.{mul-le-mul_left, mul-le-mul_right}
 use Rattle.std.proofs.lemmas.Bool.{cases_eq, cases_lt}
 use Rattle.std.proofs.lemmas.List.{ext_get_or, get_or-map, get_or_past, length-map}
 use Rattle.std.proofs.lemmas.List.Elements.{Contains-get_or}
 use Rattle.std.proofs.lemmas.List.Sums.{sum_by-le-sum_by}
-use Rattle.box_range.specs.Drops.{CanMeet, IsTight, MeetsAllLoosely}
+use Rattle.box_range.specs.Drops.{CanMeet, MeetsAllLoosely}
 use Rattle.box_range.specs.Kinds.{HasEmptySpan, Side, end_of, span_at, spans_of, step_of}
 use Rattle.box_range.specs.Kinds as side
 use Rattle.box_range.specs.declared.kind.Kind.{Kind}
@@ -27,7 +27,7 @@ use Rattle.coord_model.specs.declared.study.Term.{Term}
 use Rattle.coord_run.specs.Ending.{AreLowestTight, HasNoSettings, IsBelowAll, IsBeside, IsIssued, IsIssuedOf}
 use Rattle.coord_run.specs.Outcome.{IssuedData}
 use Rattle.coord_run.specs.Steps.{HasManyPickups}
-use Rattle.margin_rows.specs.Box.{AreLowest, Box, FitsBox, IsFirstBox, IsIn, LiesIn}
+use Rattle.margin_rows.specs.Box.{Box, IsFirstBox, IsIn, LiesIn}
 use Rattle.margin_rows.specs.Case.{Case, FitsCase, rows_in}
 use Rattle.margin_rows.specs.FirstBox.{HasEmptyFirstBox, IsFirstStep, IsInFirstBox}
 use Rattle.margin_rows.specs.Least.{AreFirstPickups, IsStrict, IsStrictLeast, IsStrictLeastOf}

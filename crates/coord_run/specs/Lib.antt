@@ -1,5 +1,9 @@
+pub mod CaseRefusal
+pub mod Cases
 pub mod Ending
 pub mod Inputs
+pub mod Margins
+pub mod MarginsRefusal
 pub mod Names
 pub mod Outcome
 pub mod Outside
@@ -10,6 +14,7 @@ pub mod RefusalText
 pub mod Report
 pub mod Reports
 pub mod Run
+pub mod Settings
 pub mod Settlement
 pub mod Solve
 pub mod SolveRefusal

@@ -8,25 +8,25 @@ use Rattle.coord_run.specs.Outside.{Folder, Prints, Sink}
 use Rattle.coord_run.specs.Refusal.{file_text}
 use Rattle.coord_run.specs.Report.{report_text}
 use Rattle.coord_run.specs.Solve.{ComesTo, IsSettled, sheet_bytes_of}
-use Rattle.coord_run.specs.Words.{SolveNames}
+use Rattle.coord_run.specs.Words.{FileNames}
 use Rattle.coord_run.specs.declared.settle.Settlement.{Settlement}
 use Rattle.margin_rows.specs.Case.{Case}
 
 -- the texts and the status are those of the outcome
-pub record HasTexts (names : SolveNames) (case : Case) (outcome : OutcomeData) (s : Settlement) : Type 0 where
+pub record HasTexts (names : FileNames) (case : Case) (outcome : OutcomeData) (s : Settlement) : Type 0 where
   pub sheet : s.sheet.items ≡ sheet_bytes_of case outcome
   pub report : s.report.items ≡ report_text case outcome
   pub fault_line : s.fault_line.items ≡ file_text (codes "write fault: ") names.sheet
   pub status : s.status ≡ outcome_status outcome
 
 -- the texts are those of an outcome that the case comes to
-pub record IsSettlementOf (names : SolveNames) (case : Case) (s : Settlement) : Type 0 where
+pub record IsSettlementOf (names : FileNames) (case : Case) (s : Settlement) : Type 0 where
   pub outcome : OutcomeData
   pub comes : ComesTo case outcome
   pub texts : HasTexts names case outcome s
 
 -- the texts are those of an outcome of the files
-pub record IsFound (names : SolveNames) (before after : Folder) (s : Settlement) : Type 0 where
+pub record IsFound (names : FileNames) (before after : Folder) (s : Settlement) : Type 0 where
   pub case : Case
   pub outcome : OutcomeData
   pub settled : IsSettled names before after case outcome

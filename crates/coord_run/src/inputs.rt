@@ -1,25 +1,52 @@
-//! The two files that a coordination is worked out from.
+//! The two files that a coordination is worked out from, and the case that they make.
 ghost use Rattle.std.specs.Prelude.{◌≡◌, ◌<◌, ◌≤◌, Some, ℕ, length, IfOk, IfErr};
 ghost use Rattle.coord_io.specs.Files.{held};
 ghost use Rattle.coord_model.specs.Limits.{FitsCurrents, FitsStudy};
 ghost use Rattle.coord_model.specs.StudyData.{entries_of, study_data};
+ghost use Rattle.coord_run.specs.Cases.{CaseCause};
 ghost use Rattle.coord_run.specs.Inputs.{AreInputs, IsNetwork, IsTable};
 ghost use Rattle.coord_run.specs.Outside.{IsReadAlone, Told, folder_at};
 ghost use Rattle.coord_run.specs.Reading.{FileCause, InputsCause, IsNetworkRefusal, IsTableRefusal, NetworkCause, TableCause};
 ghost use Rattle.coord_run.specs.Stops.{StopsFor};
+ghost use Rattle.margin_rows.specs.Case.{FitsCase};
 
-use crate::refusal::{FileFault, InputsRefusal, NetworkRefusal, Stop, TableRefusal};
+use crate::refusal::{CaseRefusal, FileFault, InputsRefusal, NetworkRefusal, Stop, TableRefusal};
 use coord_io::{Folder, ReadRefusal, read_whole};
 use coord_model::{Currents, Study};
 use fault_table::{TableFault, read_currents};
+use margin_rows::{BuildFault, Instance, build};
 use network_file::{NetFault, read_network};
 use std::alloc::Global;
 
 /// The most bytes of a file that is read.
 pub const MOST_BYTES: u64 = 4_194_304;
 
+/// The instance of the study and its currents, read from their files.
+pub fn read_case<F: Folder>(
+    alloc: Global,
+    folder: &mut F,
+    network: &str,
+    currents: &str,
+) -> Result<Instance, Stop<CaseRefusal>>
+    ensures read { IfOk result (λ inst. Told (folder_at F.files F.read_faults F.write_faults folder.old)
+        (folder_at F.files F.read_faults F.write_faults folder.new)
+        (λ m. AreInputs m network.now currents.now inst.study inst.currents)) }
+    ensures fits { IfOk result FitsCase }
+    ensures stopped { IfErr result (λ stop. StopsFor stop (CaseCause (folder_at F.files F.read_faults F.write_faults folder.old)
+        (folder_at F.files F.read_faults F.write_faults folder.new) network.now currents.now)) }
+    ensures alone { IsReadAlone (folder_at F.files F.read_faults F.write_faults folder.old)
+        (folder_at F.files F.read_faults F.write_faults folder.new) }
+{
+    let (study, currents) = read_inputs(alloc, folder, network, currents)?;
+    match build(alloc, study, currents) {
+        Ok(inst) => Ok(inst),
+        Err(BuildFault::TooManyRows { .. }) => Err(Stop::Refused(CaseRefusal::TooManyRows)),
+        Err(BuildFault::NoMemory) => Err(Stop::NoMemory),
+    }
+}
+
 /// The study and its currents, read from their files.
-pub fn read_inputs<F: Folder>(
+fn read_inputs<F: Folder>(
     alloc: Global,
     folder: &mut F,
     network: &str,

@@ -1,18 +1,22 @@
 //! Coord: settings for directional overcurrent relays, coordinated and certified.
 //!
 //! `coord solve NETWORK CURRENTS SHEET` reads a network and its fault currents, and writes a settings sheet.
-//! `coord pairs NETWORK` prints which relay backs which.
+//! `coord pairs NETWORK` prints which relay backs which. `coord margins NETWORK CURRENTS SHEET` prints the margins of a
+//! settings sheet.
 #![tactic(auto)]
 
 mod decide;
 mod fault_line;
 mod inputs;
+mod margins;
+mod margins_line;
 mod outcome;
 mod pairs;
 mod printing;
 mod refusal;
 mod refusal_line;
 mod report;
+mod settings;
 mod settle;
 mod solve;
 #[cfg(test)]

@@ -2,6 +2,7 @@
 use coord_model::{Name, NoMemory};
 use fault_table::TableFault;
 use network_file::NetFault;
+use settings_sheet::SheetKind;
 
 /// Why the bytes of a file were not read.
 #[derive(Clone, Copy)]
@@ -32,27 +33,44 @@ pub enum TableRefusal {
     NoPrimary(Name),
 }
 
-/// Why the two files are no case to be coordinated.
+/// Why the two files are no study with its currents.
 #[derive(Clone, Copy)]
 pub enum InputsRefusal {
     Network(NetworkRefusal),
     Table(TableRefusal),
 }
 
-/// Why a case comes to no ending.
+/// Why the two files are no case within the limits.
 #[derive(Clone, Copy)]
 pub enum CaseRefusal {
+    Inputs(InputsRefusal),
     /// There are more than 4,096 rows.
     TooManyRows,
-    /// Several pickup steps of a relay are not built yet.
-    PickupsNotBuilt,
+}
+
+/// Why no settings of a case were read from the sheet.
+#[derive(Clone, Copy)]
+pub enum SettingsRefusal {
+    Unread(FileFault),
+    /// The lines before this one begin a sheet of the study, and with it they begin none.
+    Faulty { line: u32, kind: SheetKind },
+    /// The first box does not have the pickup of the relay of this name.
+    Outside(Name),
 }
 
 /// Why `solve` comes to no ending.
 #[derive(Clone, Copy)]
 pub enum SolveRefusal {
-    Inputs(InputsRefusal),
-    Uncoordinated(CaseRefusal),
+    Case(CaseRefusal),
+    /// Several pickup steps of a relay are not built yet.
+    PickupsNotBuilt,
+}
+
+/// Why `margins` gives no report.
+#[derive(Clone, Copy)]
+pub enum MarginsRefusal {
+    Case(CaseRefusal),
+    Settings(SettingsRefusal),
 }
 
 /// Why a step answers nothing: it is refused, or memory ran out.
@@ -133,16 +151,31 @@ impl From<Stop<TableRefusal>> for Stop<InputsRefusal> {
     }
 }
 
-impl From<Stop<InputsRefusal>> for Stop<SolveRefusal> {
+impl From<Stop<InputsRefusal>> for Stop<CaseRefusal> {
     ghost use Rattle.std.specs.Prelude.{◌≡◌};
     ghost use Rattle.coord_run.specs.Stops.{within};
-    ghost use Rattle.coord_run.specs.declared.refusal.SolveRefusal.TheVariants as of;
+    ghost use Rattle.coord_run.specs.declared.refusal.CaseRefusal.TheVariants as of;
 
     ghost from_gives = { λ stop made. made ≡ within of.Inputs stop };
 
-    fn from(stop: Stop<InputsRefusal>) -> Stop<SolveRefusal> {
+    fn from(stop: Stop<InputsRefusal>) -> Stop<CaseRefusal> {
         match stop {
-            Stop::Refused(refusal) => Stop::Refused(SolveRefusal::Inputs(refusal)),
+            Stop::Refused(refusal) => Stop::Refused(CaseRefusal::Inputs(refusal)),
+            Stop::NoMemory => Stop::NoMemory,
+        }
+    }
+}
+
+impl From<Stop<FileFault>> for Stop<SettingsRefusal> {
+    ghost use Rattle.std.specs.Prelude.{◌≡◌};
+    ghost use Rattle.coord_run.specs.Stops.{within};
+    ghost use Rattle.coord_run.specs.declared.refusal.SettingsRefusal.TheVariants as of;
+
+    ghost from_gives = { λ stop made. made ≡ within of.Unread stop };
+
+    fn from(stop: Stop<FileFault>) -> Stop<SettingsRefusal> {
+        match stop {
+            Stop::Refused(refusal) => Stop::Refused(SettingsRefusal::Unread(refusal)),
             Stop::NoMemory => Stop::NoMemory,
         }
     }
@@ -153,11 +186,41 @@ impl From<Stop<CaseRefusal>> for Stop<SolveRefusal> {
     ghost use Rattle.coord_run.specs.Stops.{within};
     ghost use Rattle.coord_run.specs.declared.refusal.SolveRefusal.TheVariants as of;
 
-    ghost from_gives = { λ stop made. made ≡ within of.Uncoordinated stop };
+    ghost from_gives = { λ stop made. made ≡ within of.Case stop };
 
     fn from(stop: Stop<CaseRefusal>) -> Stop<SolveRefusal> {
         match stop {
-            Stop::Refused(refusal) => Stop::Refused(SolveRefusal::Uncoordinated(refusal)),
+            Stop::Refused(refusal) => Stop::Refused(SolveRefusal::Case(refusal)),
+            Stop::NoMemory => Stop::NoMemory,
+        }
+    }
+}
+
+impl From<Stop<CaseRefusal>> for Stop<MarginsRefusal> {
+    ghost use Rattle.std.specs.Prelude.{◌≡◌};
+    ghost use Rattle.coord_run.specs.Stops.{within};
+    ghost use Rattle.coord_run.specs.declared.refusal.MarginsRefusal.TheVariants as of;
+
+    ghost from_gives = { λ stop made. made ≡ within of.Case stop };
+
+    fn from(stop: Stop<CaseRefusal>) -> Stop<MarginsRefusal> {
+        match stop {
+            Stop::Refused(refusal) => Stop::Refused(MarginsRefusal::Case(refusal)),
+            Stop::NoMemory => Stop::NoMemory,
+        }
+    }
+}
+
+impl From<Stop<SettingsRefusal>> for Stop<MarginsRefusal> {
+    ghost use Rattle.std.specs.Prelude.{◌≡◌};
+    ghost use Rattle.coord_run.specs.Stops.{within};
+    ghost use Rattle.coord_run.specs.declared.refusal.MarginsRefusal.TheVariants as of;
+
+    ghost from_gives = { λ stop made. made ≡ within of.Settings stop };
+
+    fn from(stop: Stop<SettingsRefusal>) -> Stop<MarginsRefusal> {
+        match stop {
+            Stop::Refused(refusal) => Stop::Refused(MarginsRefusal::Settings(refusal)),
             Stop::NoMemory => Stop::NoMemory,
         }
     }

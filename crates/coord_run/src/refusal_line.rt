@@ -1,12 +1,13 @@
 //! The line in which a refusal is printed, and its status.
 ghost use Rattle.std.specs.Prelude.{◌≡◌, ◌++◌, IfOk};
 ghost use Rattle.std.specs.Fmt.{decimal};
+ghost use Rattle.coord_run.specs.CaseRefusal.{case_status, case_text};
 ghost use Rattle.coord_run.specs.Refusal.{file_text, inputs_status, inputs_text, network_fault_status, network_refusal_text, network_status, table_fault_status, table_refusal_text, table_status, too_long_text, unread_status, unread_text};
 
-use crate::fault_line::{network_line, table_line};
+use crate::fault_line::{network_line, table_line, too_many_line};
 use crate::inputs::MOST_BYTES;
-use crate::refusal::{FileFault, InputsRefusal, NetworkRefusal, TableRefusal};
-use coord_model::NoMemory;
+use crate::refusal::{CaseRefusal, FileFault, InputsRefusal, NetworkRefusal, TableRefusal};
+use coord_model::{NoMemory, What};
 use coord_text::push_number;
 use fault_table::TableFault;
 use network_file::NetFault;
@@ -104,8 +105,33 @@ fn table_fault_status(fault: TableFault) -> u8
     }
 }
 
+/// The line of two files that make no case within the limits.
+pub fn case_line(
+    alloc: Global,
+    network: &str,
+    currents: &str,
+    refusal: &CaseRefusal,
+) -> Result<Vec<u8>, NoMemory>
+    ensures { IfOk result (λ line. line.items ≡ case_text network.now currents.now refusal.now) }
+{
+    match refusal {
+        CaseRefusal::Inputs(refusal) => inputs_line(alloc, network, currents, refusal),
+        CaseRefusal::TooManyRows => too_many_line(alloc, What::Rows, 4_096),
+    }
+}
+
+/// The status of two files that make no case within the limits.
+pub fn case_status(refusal: &CaseRefusal) -> u8
+    ensures { result ≡ case_status refusal.now }
+{
+    match refusal {
+        CaseRefusal::Inputs(refusal) => inputs_status(refusal),
+        CaseRefusal::TooManyRows => 15,
+    }
+}
+
 /// The line of two files that were not read.
-pub fn inputs_line(
+fn inputs_line(
     alloc: Global,
     network: &str,
     currents: &str,
@@ -120,7 +146,7 @@ pub fn inputs_line(
 }
 
 /// The status of two files that were not read.
-pub fn inputs_status(refusal: &InputsRefusal) -> u8
+fn inputs_status(refusal: &InputsRefusal) -> u8
     ensures { result ≡ inputs_status refusal.now }
 {
     match refusal {

@@ -69,7 +69,12 @@ fn ending_bytes(
 }
 
 /// Adds the line of a row, with its margins at a choice.
-fn push_row(out: &mut Vec<u8>, inst: &Instance, choice: &Choice, row: u16) -> Result<(), NoMemory>
+pub fn push_row(
+    out: &mut Vec<u8>,
+    inst: &Instance,
+    choice: &Choice,
+    row: u16,
+) -> Result<(), NoMemory>
     requires first_box { IsInFirstBox inst.now (choice_data choice.now) }
     requires is_row { row < length (rows_in inst.now) }
     ensures { OnOk result (out.new.items ≡ out.old.items ++ row_text_at inst.now (choice_data choice.now) row) }

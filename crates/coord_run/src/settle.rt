@@ -1,27 +1,21 @@
-//! From a study and its currents to the texts that are written.
-ghost use Rattle.std.specs.Prelude.{◌≡◌, ◌↔◌, ℕ, IfOk, IfErr, IsTrue};
+//! From an instance to the texts that are written.
+ghost use Rattle.std.specs.Prelude.{◌≡◌, ◌↔◌, ℕ, IfOk, IsTrue};
 ghost use Rattle.std.specs.Option.{option_map};
-ghost use Rattle.coord_model.specs.Limits.{FitsCurrents, FitsStudy};
-ghost use Rattle.coord_model.specs.StudyData.{entries_of, study_data};
 ghost use Rattle.coord_run.specs.Names.{names_data};
 ghost use Rattle.coord_run.specs.Ending.{IsTrueOf};
 ghost use Rattle.coord_run.specs.Outcome.{issued_data, outcome_data, outcome_status, sheet_of, sheet_with};
 ghost use Rattle.coord_run.specs.Settlement.{IsSettlementOf};
-ghost use Rattle.coord_run.specs.Solve.{CaseCause};
-ghost use Rattle.coord_run.specs.Stops.{StopsFor};
 ghost use Rattle.coord_run.specs.Steps.{HasManyPickups, HasTwoSteps, SpansTwo};
-ghost use Rattle.margin_rows.specs.Case.{case_of};
 ghost use Rattle.margin_rows.specs.FirstBox.{HasEmptyFirstBox};
 ghost use Rattle.settings_sheet.specs.SheetText.{IsSheet, sheet_data};
 
 use crate::decide::decide;
 use crate::outcome::{Issued, Outcome};
-use crate::refusal::{CaseRefusal, Stop};
 use crate::refusal_line::file_line;
 use crate::report::report_bytes;
 use crate::words::Names;
-use coord_model::{Currents, Ending, NoMemory, Study};
-use margin_rows::{BuildFault, Instance, build};
+use coord_model::{Ending, NoMemory};
+use margin_rows::Instance;
 use settings_sheet::{Sheet, sheet_bytes};
 use std::alloc::Global;
 
@@ -35,28 +29,8 @@ pub struct Settlement {
     pub status: u8,
 }
 
-/// What a study and its currents come to.
-pub fn settle(
-    alloc: Global,
-    names: &Names<'_>,
-    study: Study,
-    currents: Currents,
-) -> Result<Settlement, Stop<CaseRefusal>>
-    requires study { FitsStudy (study_data study) }
-    requires currents { FitsCurrents (study_data study) (entries_of currents) }
-    ensures settled { IfOk result (IsSettlementOf (names_data names.now) (case_of study currents)) }
-    ensures stopped { IfErr result (λ stop. StopsFor stop (CaseCause (case_of study currents))) }
-{
-    match build(alloc, study, currents) {
-        Ok(inst) if has_many_pickups(&inst) => Err(Stop::Refused(CaseRefusal::PickupsNotBuilt)),
-        Ok(inst) => Ok(texts(alloc, names, &inst)?),
-        Err(BuildFault::TooManyRows { .. }) => Err(Stop::Refused(CaseRefusal::TooManyRows)),
-        Err(BuildFault::NoMemory) => Err(Stop::NoMemory),
-    }
-}
-
 /// The texts of what an instance comes to.
-fn texts(alloc: Global, names: &Names<'_>, inst: &Instance) -> Result<Settlement, NoMemory>
+pub fn settle(alloc: Global, names: &Names<'_>, inst: &Instance) -> Result<Settlement, NoMemory>
     requires { ¬ (HasManyPickups inst.now) }
     ensures { IfOk result (IsSettlementOf (names_data names.now) inst.now) }
 {
@@ -120,7 +94,7 @@ fn status_of(outcome: &Outcome) -> u8
 }
 
 /// Whether some relay has several pickup steps in the first box, and none has no step.
-fn has_many_pickups(inst: &Instance) -> bool
+pub fn has_many_pickups(inst: &Instance) -> bool
     ensures { IsTrue result ↔ HasManyPickups inst.now }
 {
     !lacks_pickups(inst) && has_two_pickups(inst)

@@ -7,18 +7,17 @@ ghost use Rattle.coord_run.specs.Names.{names_data};
 ghost use Rattle.coord_run.specs.Outside.{IsReadAlone, folder_at, sink_at};
 ghost use Rattle.coord_run.specs.Settlement.{HandsOver, IsFound};
 ghost use Rattle.coord_run.specs.Solve.{SolveCause, Solves};
-ghost use Rattle.coord_run.specs.SolveRefusal.{case_status, case_text, solve_status, solve_text};
+ghost use Rattle.coord_run.specs.SolveRefusal.{solve_status, solve_text};
 ghost use Rattle.coord_run.specs.Stops.{StopsFor};
 
-use crate::fault_line::too_many_line;
-use crate::inputs::read_inputs;
+use crate::inputs::read_case;
 use crate::printing::{NO_MEMORY, WRITE_FAULT, print, refuse};
-use crate::refusal::{CaseRefusal, SolveRefusal, Stop};
-use crate::refusal_line::{inputs_line, inputs_status};
-use crate::settle::{Settlement, settle};
+use crate::refusal::{SolveRefusal, Stop};
+use crate::refusal_line::{case_line, case_status};
+use crate::settle::{Settlement, has_many_pickups, settle};
 use crate::words::Names;
 use coord_io::{Failed, Folder, Sink, append_whole};
-use coord_model::{NoMemory, What};
+use coord_model::NoMemory;
 use std::alloc::Global;
 
 /// Reads the network and the currents, writes the sheet and prints the report, or the line of a refusal.
@@ -58,8 +57,11 @@ fn find<F: Folder>(
     ensures alone { IsReadAlone (folder_at F.files F.read_faults F.write_faults folder.old)
         (folder_at F.files F.read_faults F.write_faults folder.new) }
 {
-    let (study, currents) = read_inputs(alloc, folder, names.network, names.currents)?;
-    Ok(settle(alloc, names, study, currents)?)
+    let inst = read_case(alloc, folder, names.network, names.currents)?;
+    if has_many_pickups(&inst) {
+        return Err(Stop::Refused(SolveRefusal::PickupsNotBuilt));
+    }
+    Ok(settle(alloc, names, &inst)?)
 }
 
 /// Writes the sheet and prints the report, or the line of a write fault. It takes no memory.
@@ -94,10 +96,8 @@ fn solve_line(alloc: Global, names: &Names<'_>, refusal: &SolveRefusal) -> Resul
     ensures { IfOk result (λ line. line.items ≡ solve_text (names_data names.now) refusal.now) }
 {
     match refusal {
-        SolveRefusal::Inputs(refusal) => {
-            inputs_line(alloc, names.network, names.currents, refusal)
-        }
-        SolveRefusal::Uncoordinated(refusal) => case_line(alloc, *refusal),
+        SolveRefusal::Case(refusal) => case_line(alloc, names.network, names.currents, refusal),
+        SolveRefusal::PickupsNotBuilt => Ok(Vec::from_slice(alloc, b"not built: pickups\n")?),
     }
 }
 
@@ -106,27 +106,7 @@ fn solve_status(refusal: &SolveRefusal) -> u8
     ensures { result ≡ solve_status refusal.now }
 {
     match refusal {
-        SolveRefusal::Inputs(refusal) => inputs_status(refusal),
-        SolveRefusal::Uncoordinated(refusal) => case_status(*refusal),
-    }
-}
-
-/// The line of a case that comes to no ending.
-fn case_line(alloc: Global, refusal: CaseRefusal) -> Result<Vec<u8>, NoMemory>
-    ensures { IfOk result (λ line. line.items ≡ case_text refusal) }
-{
-    match refusal {
-        CaseRefusal::TooManyRows => too_many_line(alloc, What::Rows, 4_096),
-        CaseRefusal::PickupsNotBuilt => Ok(Vec::from_slice(alloc, b"not built: pickups\n")?),
-    }
-}
-
-/// The status of a case that comes to no ending.
-fn case_status(refusal: CaseRefusal) -> u8
-    ensures { result ≡ case_status refusal }
-{
-    match refusal {
-        CaseRefusal::TooManyRows => 15,
-        CaseRefusal::PickupsNotBuilt => 21,
+        SolveRefusal::Case(refusal) => case_status(refusal),
+        SolveRefusal::PickupsNotBuilt => 21,
     }
 }

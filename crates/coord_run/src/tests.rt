@@ -1,9 +1,10 @@
-//! What no clause says: that calls succeed, the printed texts, and which planned fault is met. The settings and
-//! costs were worked out by hand.
+//! What no clause says: that calls succeed, the printed texts, and which planned fault is met. The settings, costs
+//! and margins were worked out by hand.
 mod endings;
 mod faults;
 mod limits;
 mod listing;
+mod margins;
 mod refusals;
 
 use crate::top::run;
@@ -84,17 +85,31 @@ relay R2 plug 1.00 dial 0.050
 end
 ";
 
+const NO_SETTINGS: &str = "coord-sheet 1\nending no-settings\ncost none\nbound none\nend\n";
+
 /// What the sheet's file holds before the call.
 const OLD_SHEET: &str = "an old sheet\n";
 
 const SOLVE: [&str; 4] = ["solve", "n", "t", "s"];
+
+const USAGE: &str =
+    "usage: coord solve NETWORK CURRENTS SHEET, pairs NETWORK, margins NETWORK CURRENTS SHEET\n";
 
 /// The network with the first of each part replaced in turn.
 fn changed(
     rt: &(impl AllocGlobal + Abort),
     changes: &[(&str, &str)],
 ) -> Result<String, AllocError> {
-    let mut text = String::from_str(rt.alloc(), NETWORK)?;
+    edited(rt, NETWORK, changes)
+}
+
+/// The text with the first of each part replaced in turn.
+fn edited(
+    rt: &(impl AllocGlobal + Abort),
+    text: &str,
+    changes: &[(&str, &str)],
+) -> Result<String, AllocError> {
+    let mut text = String::from_str(rt.alloc(), text)?;
     for (old, new) in changes {
         let mut made = String::new(rt.alloc());
         let Some((before, after)) = text.split_once(*old) else {

@@ -4,10 +4,11 @@ ghost use Rattle.coord_run.specs.Outside.{folder_at, sink_at};
 ghost use Rattle.coord_run.specs.Run.{Does, usage_text};
 ghost use Rattle.coord_run.specs.Words.{command_of};
 
+use crate::margins::margins;
 use crate::pairs::pairs;
 use crate::printing::print;
 use crate::solve::solve;
-use crate::words::{pairs_name, solve_names};
+use crate::words::{margins_names, pairs_name, solve_names};
 use coord_io::{Folder, Sink};
 use std::alloc::Global;
 
@@ -18,6 +19,7 @@ const USAGE: u8 = 2;
 ///
 /// `solve NETWORK CURRENTS SHEET` reads the network and the table of its fault currents, and writes the settings
 /// sheet. Its ending or its refusal is printed on the sink. `pairs NETWORK` reads the network and prints its pairs.
+/// `margins NETWORK CURRENTS SHEET` reads the three files and prints each row with its margins.
 pub fn run<F: Folder, K: Sink>(alloc: Global, words: &[String], folder: &mut F, out: &mut K) -> u8
     ensures { Does (command_of (map string_bytes words.now)) (folder_at F.files F.read_faults F.write_faults folder.old)
         (folder_at F.files F.read_faults F.write_faults folder.new)
@@ -26,11 +28,14 @@ pub fn run<F: Folder, K: Sink>(alloc: Global, words: &[String], folder: &mut F, 
     if let Some(names) = solve_names(words) {
         return solve(alloc, folder, out, &names);
     }
-    match pairs_name(words) {
-        Some(network) => pairs(alloc, folder, out, network),
+    if let Some(network) = pairs_name(words) {
+        return pairs(alloc, folder, out, network);
+    }
+    match margins_names(words) {
+        Some(names) => margins(alloc, folder, out, &names),
         None => print(
             out,
-            b"usage: coord solve NETWORK CURRENTS SHEET, pairs NETWORK\n",
+            b"usage: coord solve NETWORK CURRENTS SHEET, pairs NETWORK, margins NETWORK CURRENTS SHEET\n",
             USAGE,
         ),
     }

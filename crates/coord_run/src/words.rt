@@ -2,9 +2,9 @@
 ghost use Rattle.std.specs.Prelude.{◌≡◌, ◌+◌, ◌<◌, map, length, string_bytes};
 ghost use Rattle.std.specs.Option.{option_map};
 ghost use Rattle.coord_run.specs.Names.{names_data};
-ghost use Rattle.coord_run.specs.Words.{are_names, is_name, pairs_name_of, solve_of};
+ghost use Rattle.coord_run.specs.Words.{are_names, is_name, margins_of, pairs_name_of, solve_of};
 
-/// The files that `solve` names.
+/// The network, the currents table and the sheet that a command names.
 #[derive(Clone, Copy)]
 pub struct Names<'a> {
     pub network: &'a str,
@@ -26,6 +26,30 @@ pub fn solve_names(words: &[String]) -> Option<Names<'_>>
         sheet: words[3].as_str(),
     };
     if words[0].as_str() == "solve" && are_names(&names) {
+        Some(names)
+    } else {
+        None
+    }
+}
+
+/// The names of `margins NETWORK CURRENTS SHEET`, which may be equal. `None`: the words are not that command.
+#[tactic(auto, unfolding(crate::specs::Words::margins_of))]
+pub fn margins_names(words: &[String]) -> Option<Names<'_>>
+    ensures { option_map names_data result ≡ margins_of (map string_bytes words.now) }
+{
+    if words.len() != 4 {
+        return None;
+    }
+    let names = Names {
+        network: words[1].as_str(),
+        currents: words[2].as_str(),
+        sheet: words[3].as_str(),
+    };
+    if words[0].as_str() == "margins"
+        && is_name(names.network)
+        && is_name(names.currents)
+        && is_name(names.sheet)
+    {
         Some(names)
     } else {
         None

@@ -32,8 +32,6 @@ name = "F1"
 line = "AB"
 "#;
 
-const NO_SETTINGS: &str = "coord-sheet 1\nending no-settings\ncost none\nbound none\nend\n";
-
 /// Asserts that the network and the currents end so: the status, what is printed, and the sheet.
 pub fn ends(
     rt: &(impl AllocGlobal + Abort),
@@ -181,7 +179,7 @@ fn one_relay_ends_by_its_multiple(rt: HostRuntime) -> Result<(), test::Fail> {
 }
 
 /// The two relays with dials of 0.050 to 1.000, and so many of them for R1.
-fn dialled(rt: &(impl AllocGlobal + Abort), count: &'static str) -> Result<String, AllocError> {
+pub fn dialled(rt: &(impl AllocGlobal + Abort), count: &'static str) -> Result<String, AllocError> {
     changed(
         rt,
         &[
@@ -239,7 +237,7 @@ relay R2 plug 1.00 dial 0.140
 
 /// 270 ms is 0.140 times 13.5/7 s, the time at 8 times pickup: R2 at 0.140 and R1 at 0.280 lie that far apart exactly, but
 /// their enclosures do not show it.
-fn at_a_hairline(
+pub fn at_a_hairline(
     rt: &(impl AllocGlobal + Abort),
     first: &'static str,
     second: &'static str,

@@ -3,7 +3,7 @@ use coord_io::CallKind;
 use coord_model::Name;
 
 /// The call that is to fail, alone.
-fn fail_at(
+pub fn fail_at(
     rt: &(impl AllocGlobal + Abort),
     call: CallKind,
     name: &str,

@@ -130,10 +130,13 @@ fn as_many_rows_as_may_be_are_coordinated(rt: HostRuntime) -> Result<(), test::F
         "closed cost 35464661655720 bound 35464661653080 boxes 1\n",
         &sheet,
     )?;
-    refuses(
+    let currents = star_currents(&rt, 8)?;
+    refuses(&rt, &network, &currents, 15, "too many: rows 4096\n")?;
+    let mut folder = inputs(&rt, &network, &currents, Vec::new(rt.alloc()))?;
+    answers(
         &rt,
-        &network,
-        &star_currents(&rt, 8)?,
+        &["margins", "n", "t", "s"],
+        &mut folder,
         15,
         "too many: rows 4096\n",
     )?;

@@ -85,10 +85,9 @@ pairs 5
 #[test]
 fn pairs_name_one_network(rt: HostRuntime) -> Result<(), test::Fail> {
     let mut folder = folder_of(&rt, &[("n", "")], Vec::new(rt.alloc()))?;
-    let usage = "usage: coord solve NETWORK CURRENTS SHEET, pairs NETWORK\n";
-    answers(&rt, &["pairs"], &mut folder, 2, usage)?;
-    answers(&rt, &["pairs", "n", "m"], &mut folder, 2, usage)?;
-    answers(&rt, &["pairs", "-n"], &mut folder, 2, usage)?;
+    answers(&rt, &["pairs"], &mut folder, 2, USAGE)?;
+    answers(&rt, &["pairs", "n", "m"], &mut folder, 2, USAGE)?;
+    answers(&rt, &["pairs", "-n"], &mut folder, 2, USAGE)?;
     answers(&rt, &["pairs", "m"], &mut folder, 9, "missing: m\n")?;
     answers(
         &rt,

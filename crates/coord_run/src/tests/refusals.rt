@@ -32,13 +32,7 @@ fn words_of_no_command_get_the_usage(rt: HostRuntime) -> Result<(), test::Fail> 
         &["solve", "-n", "t", "s"],
     ];
     for words in cases {
-        answers(
-            &rt,
-            words,
-            &mut folder,
-            2,
-            "usage: coord solve NETWORK CURRENTS SHEET, pairs NETWORK\n",
-        )?;
+        answers(&rt, words, &mut folder, 2, USAGE)?;
         holds(&rt, &folder, "s", OLD_SHEET);
     }
     // a word of one byte may be a hyphen

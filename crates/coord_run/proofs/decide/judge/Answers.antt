@@ -1,5 +1,5 @@
 use Rattle.std.specs.List.{All}
-use Rattle.std.proofs.Common.{◌≡◌, ◌≤◌, ◌+◌, ℕ, arith, refl}
+use Rattle.std.proofs.Common.{arith, refl}
 use Rattle.std.specs.Option.{option_map}
 use Rattle.coord_model.specs.Choice.{choice_data}
 use Rattle.coord_run.specs.Outcome.{issued_data}

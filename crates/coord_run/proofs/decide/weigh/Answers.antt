@@ -1,5 +1,4 @@
 use Rattle.std.proofs.Common.{arith}
-use Rattle.std.specs.Option.{option_map}
 use Rattle.coord_run.specs.Outcome.{hair_data, issued_data}
 use Rattle.coord_run.proofs.EndingLaws.{closes, stays}
 use Rattle.coord_run.proofs.decide.weigh.Goals as goal

@@ -1,4 +1,4 @@
-use Rattle.std.proofs.Common.{◌≡◌, ℕ, ◌<◌, IsTrue, length, arith, ap, subst, inl, inr}
+use Rattle.std.proofs.Common.{IsTrue, length, arith, ap, subst, inl, inr}
 use Rattle.std.proofs.lemmas.Bool.{cases_eq}
 use Rattle.coord_model.specs.StudyData.{StudyData}
 use Rattle.coord_run.specs.Steps.{HasTwoSteps}

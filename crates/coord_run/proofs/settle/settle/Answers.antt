@@ -1,10 +1,18 @@
-use Rattle.std.proofs.Common.{ℕ, ◌≤◌, length, subst}
-use Rattle.coord_run.specs.Steps.{HasManyPickups}
-use Rattle.margin_rows.specs.Case.{Case, rows_in}
+use Rattle.std.proofs.Common.{◌∙◌, ap}
+use Rattle.std.specs.Prelude.{codes}
+use Rattle.settings_sheet.specs.SheetText.{sheet_data, sheet_text}
+use Rattle.coord_run.specs.Outcome.{outcome_data}
+use Rattle.coord_run.specs.Refusal.{file_text}
 use Rattle.coord_run.proofs.settle.settle.Goals as goal
 
-pub returns-in-Ok-clause-stopped : goal.returns-in-Ok-clause-stopped
-returns-in-Ok-clause-stopped c =
-    let Few : Case → Type 0 = λ case. length (rows_in case) ≤ 4096 in
-    let Many : Case → Type 0 = λ case. HasManyPickups case in
-    (subst Few c.in-Ok.ensures.exact c.in-Ok.ensures.fits.few_rows, subst Many c.in-Ok.ensures.exact (c.has_many_pickups.ensures.0 c.if-has_many_pickups.true))
+pub returns : goal.returns
+returns c = record {
+  outcome = outcome_data c.in_ok-outcome.outcome;
+  comes = record { built = c.requires; few_rows = c.study.ensures.fits.few_rows; outcome_is_true = c.in_ok-outcome.ensures.decided };
+  texts = record {
+    sheet = c.in_ok-sheet.ensures ∙ ap (λ study. sheet_text study (sheet_data c.sheet_of.result)) c.study.ensures.value ∙ ap (sheet_text c.args.inst.now.study) c.sheet_of.ensures;
+    report = c.in_ok-report.ensures;
+    fault_line = c.in_ok-fault_line.ensures ∙ ap (file_text (codes "write fault: ")) c.as_bytes.ensures.value;
+    status = c.status_of-status.ensures;
+  };
+}
