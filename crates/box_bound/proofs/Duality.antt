@@ -22,14 +22,14 @@ use Rattle.margin_rows.specs.Box.{Box, IsIn, LiesIn, FitsBox}
 use Rattle.margin_rows.specs.Case.{Case, FitsCase, rows_in, terms_in}
 use Rattle.margin_rows.specs.Dial.{dial_at_step}
 use Rattle.margin_rows.specs.Margin.{interval_ps, time_of, MeetsLoosely}
-use Rattle.margin_rows.specs.Price.{least_sum, lower_cost_of}
+use Rattle.margin_rows.specs.Price.{least_sum, lower_cost_of, term_part}
 use Rattle.margin_rows.specs.Times.{time_at}
 use Rattle.margin_rows.specs.declared.span.Steps.{Steps}
 use Rattle.margin_rows.proofs.Costs.{sums_le, costs_at_least}
 use Rattle.margin_rows.proofs.Boxed.{allowed_in_first_box, set_terms}
 use Rattle.margin_rows.proofs.Listed.{term_facts, row_facts}
 use Rattle.margin_rows.proofs.Placed.{of_some}
-use Rattle.box_bound.specs.DualValue.{row_of, pickups_of, dials_of, term_part, primary_part, gain, loss, at_dial, part, total, IsLeastPart, IsDualValue}
+use Rattle.box_bound.specs.DualValue.{row_of, pickups_of, dials_of, primary_part, gain, loss, at_dial, part, total, IsLeastPart, IsDualValue}
 use Rattle.box_bound.specs.LowerBound.{bound_at}
 use Rattle.box_bound.specs.Weighing.{FitWeights}
 use Rattle.box_bound.proofs.Swaps.{between, between_mixed, swap, total_le}

@@ -1,8 +1,9 @@
 -- What a dual value can be worked out for (ours): a box with a step in each span, and weights of rows.
-use Rattle.std.specs.Prelude.{ℕ, ◌<◌, ◌≤◌, List, length, slice_get, All, IfSome}
+use Rattle.std.specs.Prelude.{ℕ, ◌<◌, ◌≤◌, ◌==◌, ◌||◌, Bool, List, length, filter, slice_get, All, IfSome}
 use Rattle.coord_model.specs.declared.weights.Weight.{Weight}
 use Rattle.margin_rows.specs.Box.{Box, FitsBox}
 use Rattle.margin_rows.specs.Case.{Case, FitsCase, rows_in}
+use Rattle.box_bound.specs.DualValue.{row_of}
 
 -- no span of the box is empty
 pub record HasNoEmptySpan (box : Box) : Type 0 where
@@ -24,3 +25,11 @@ pub record IsFilled (case : Case) (box : Box) : Type 0 where
 pub record IsWeighed (case : Case) (box : Box) (weights : List Weight) : Type 0 where
   pub filled : IsFilled case box
   pub fit : FitWeights case weights
+
+-- the row of the weight touches relay i: the relay is its primary or its backup
+abbrev pub touches : Case → ℕ → Weight → Bool
+touches case i w = let row = row_of case w.row in (row.primary == i) || (row.backup == i)
+
+-- the weights of the rows that touch relay i
+abbrev pub touching : Case → ℕ → List Weight → List Weight
+touching case i weights = filter (touches case i) weights
