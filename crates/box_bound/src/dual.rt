@@ -3,13 +3,13 @@ ghost use Rattle.std.specs.Prelude.{◌≡◌, ◌<◌, ◌≤◌, ◌*◌, ◌^
 ghost use Rattle.coord_model.specs.Allowed.{IsAllowed};
 ghost use Rattle.coord_model.specs.Choice.{Settings};
 ghost use Rattle.coord_model.specs.Cost.{CostsAtLeast};
-ghost use Rattle.margin_rows.specs.Box.{FitsBox, LiesIn};
+ghost use Rattle.margin_rows.specs.Box.{FitsBox, HasNoEmptySpan, LiesIn};
 ghost use Rattle.margin_rows.specs.Case.{rows_in, FitsCase};
 ghost use Rattle.margin_rows.specs.Margin.{interval_ps, MeetsLoosely};
 ghost use Rattle.margin_rows.specs.Price.{least_sum};
 ghost use Rattle.box_bound.specs.DualValue.{IsDualValue};
 ghost use Rattle.box_bound.specs.LowerBound.{IsPlainBound};
-ghost use Rattle.box_bound.specs.Weighing.{HasNoEmptySpan, FitWeights};
+ghost use Rattle.box_bound.specs.Weighing.{FitWeights};
 
 use crate::bound::bound_of;
 use crate::least::least_part;

@@ -11,7 +11,7 @@ use Rattle.coord_model.specs.StudyData.{StudyData}
 use Rattle.coord_model.specs.Time.{dial_at}
 use Rattle.coord_model.specs.declared.study.Relay.{Relay}
 use Rattle.coord_model.specs.declared.study.Row.{Row}
-use Rattle.margin_rows.specs.Box.{Box, IsIn, LiesIn, FitsBox, IsDialStep}
+use Rattle.margin_rows.specs.Box.{Box, IsIn, LiesIn, FitsBox, IsDialStep, HasNoEmptySpan, IsFilled}
 use Rattle.margin_rows.specs.Case.{Case, rows_in, FitsCase}
 use Rattle.margin_rows.specs.Dial.{dial_at_step}
 use Rattle.margin_rows.specs.FirstBox.{IsFirstStep}
@@ -19,8 +19,8 @@ use Rattle.margin_rows.specs.Margin.{MeetsLoosely, interval_ps}
 use Rattle.margin_rows.specs.Times.{time_at}
 use Rattle.margin_rows.specs.declared.span.Steps.{Steps}
 use Rattle.box_range.specs.Drops.{CanMeet}
-use Rattle.box_range.specs.Kinds.{spans_of, step_of, span_at, HasSteps}
-use Rattle.box_range.specs.Meeting.{IsFilled, IsMeetable, HasRelays, AreFirst, MeetsWith, relay_of, best_steps, with_step}
+use Rattle.box_range.specs.Kinds.{spans_of, step_of, span_at}
+use Rattle.box_range.specs.Meeting.{IsMeetable, HasRelays, AreFirst, MeetsWith, relay_of, best_steps, with_step}
 use Rattle.box_range.specs.declared.kind.Kind.{Kind}
 use Rattle.box_range.specs.declared.kind.Kind.TheVariants.{Pickup, Dial}
 use Rattle.box_range.specs.declared.row.Part.{Part}
@@ -128,7 +128,7 @@ choice_with box row steps = record {
   dial = chosen box.dial row.backup steps.backup_dial row.primary steps.primary_dial;
 }
 
-choice_lies : (box : Box) (row : Row) (steps : RowSteps) → HasSteps box → row.backup ≢ row.primary → AreInBox box row steps → LiesIn box (choice_with box row steps)
+choice_lies : (box : Box) (row : Row) (steps : RowSteps) → HasNoEmptySpan box → row.backup ≢ row.primary → AreInBox box row steps → LiesIn box (choice_with box row steps)
 unfolding choice_with
 choice_lies box row steps some apart is =
     lies box (choice_with box row steps) (chosen_count box.pickup row.backup steps.backup_pickup row.primary steps.primary_pickup)
@@ -167,13 +167,13 @@ step_for_with Primary Pickup steps step = refl
 step_for_with Primary Dial steps step = refl
 
 -- steps of the box that meet the row give a choice of the box that does
-meets_settings : (case : Case) (box : Box) (row : Row) (steps : RowSteps) → HasSteps box → HasRelays box row → row.backup ≢ row.primary → AreInBox box row steps → MeetsWith case row steps
+meets_settings : (case : Case) (box : Box) (row : Row) (steps : RowSteps) → HasNoEmptySpan box → HasRelays box row → row.backup ≢ row.primary → AreInBox box row steps → MeetsWith case row steps
     → (settings : Settings) × LiesIn box settings × (steps_at settings row ≡ steps) × MeetsLoosely case settings row
 meets_settings case box row steps some relays apart is meets =
     let same = choice_steps box row steps relays apart in
     (choice_with box row steps, choice_lies box row steps some apart is, same, subst (λ (s : RowSteps). MeetsWith case row s) (sym same) meets)
 
-best_in_box : (box : Box) (row : Row) → HasSteps box → HasRelays box row → AreInBox box row (best_steps box row)
+best_in_box : (box : Box) (row : Row) → HasNoEmptySpan box → HasRelays box row → AreInBox box row (best_steps box row)
 best_in_box box row some relays = record {
   backup_pickup = highest (span_at Pickup box row.backup) (has_steps box Pickup row.backup some (relays.backup Pickup));
   backup_dial = highest (span_at Dial box row.backup) (has_steps box Dial row.backup some (relays.backup Dial));
