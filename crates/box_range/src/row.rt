@@ -1,7 +1,6 @@
 //! Whether a row can be met: its two relays and their steps.
 ghost use Rattle.std.specs.Prelude.{◌≡◌, ◌<◌, ◌^◌, ◌↔◌, IsTrue};
 ghost use Rattle.margin_rows.specs.Box.{IsIn, HasNoEmptySpan, IsFilled};
-ghost use Rattle.margin_rows.specs.Margin.{interval_ps};
 ghost use Rattle.box_range.specs.Drops.{CanMeet};
 ghost use Rattle.box_range.specs.Kinds.{span_at};
 ghost use Rattle.box_range.specs.Meeting.{HasRow, IsMeetable, AreFirst, MeetsWith, HasRelays, relay_of, best_steps, with_step};
@@ -122,13 +121,5 @@ fn meets(inst: &Instance, at: Place, steps: RowSteps) -> bool
     let (backup, primary) = inst.row_times(at.number, steps.backup_pickup, steps.primary_pickup);
     let latest = dial_at(inst, at.row.backup, steps.backup_dial) * backup.1;
     let earliest = dial_at(inst, at.row.primary, steps.primary_dial) * primary.0;
-    earliest + interval_ps(inst) <= latest
-}
-
-/// The coordination interval, in picoseconds.
-fn interval_ps(inst: &Instance) -> u64
-    ensures exact { result ≡ interval_ps inst.now.study }
-    ensures small { result < 2 ^ 54 }
-{
-    u64::from(inst.study().cti_ms) * 1_000_000_000
+    earliest + inst.interval_ps() <= latest
 }

@@ -14,7 +14,7 @@ use Rattle.coord_model.specs.Cost.{weight_of}
 use Rattle.coord_model.specs.Allowed.{IsSensible}
 use Rattle.coord_model.specs.declared.study.Term.{Term}
 use Rattle.margin_rows.specs.Case.{Case, FitsCase, terms_in}
-use Rattle.margin_rows.specs.FirstBox.{IsFirstStep, IsFirstSpan, IsFirstSpanOf, HasNoStep}
+use Rattle.margin_rows.specs.FirstBox.{IsFirstStep, IsFirstSpan, IsFirstSpanOf}
 use Rattle.margin_rows.specs.Price.{term_part, term_sum}
 use Rattle.margin_rows.specs.Tables.{HoldsRun, HoldsSums, HoldTermRuns}
 use Rattle.margin_rows.specs.Times.{time_at, ends, IsOrdinary}
@@ -98,7 +98,6 @@ pub record IsAdded (case : Case) (term : Term) (low past : ℕ) (old new : List 
   pub size : length new ≡ length old
   pub here : (step : ℕ) → low ≤ step → step < past → get_or new (term.relay * 64 + step) 0 ≡ get_or old (term.relay * 64 + step) 0 + term_part case term.relay step term
   pub others : (p : ℕ) → ((step : ℕ) → low ≤ step → step < past → p ≢ term.relay * 64 + step) → get_or new p 0 ≡ get_or old p 0
-
 
 pub one_added : (case : Case) (term : Term) (low step value : ℕ) (old mid new : List ℕ) → low ≤ step → IsAdded case term low step old mid → term.relay * 64 + step < length mid
     → value ≡ get_or mid (term.relay * 64 + step) 0 + term_part case term.relay step term → new ≡ set mid (term.relay * 64 + step) value → IsAdded case term low (step + 1) old new

@@ -4,6 +4,7 @@ ghost use Rattle.coord_model.specs.Limits.{FitsStudy, FitsCurrents};
 ghost use Rattle.coord_model.specs.StudyData.{study_data, entries_of};
 ghost use Rattle.margin_rows.specs.Case.{case_of, rows_in, terms_in, AtRow, AtTerm, FitsCase};
 ghost use Rattle.margin_rows.specs.FirstBox.{IsFirstStep, IsFirstSpanOf};
+ghost use Rattle.margin_rows.specs.Margin.{interval_ps};
 ghost use Rattle.margin_rows.specs.Price.{term_sum};
 ghost use Rattle.margin_rows.specs.Refusal.{HasCause};
 ghost use Rattle.margin_rows.specs.Times.{time_at, ends, IsOrdinary};
@@ -57,6 +58,15 @@ impl Instance {
         ensures fits { FitsCase self.now }
     {
         self.given.study()
+    }
+
+    /// The coordination interval, in picoseconds.
+    pub fn interval_ps(&self) -> u64
+        ensures exact { result ≡ interval_ps self.now.study }
+        ensures small { result < 2 ^ 54 }
+        ensures fits { FitsCase self.now }
+    {
+        u64::from(self.study().cti_ms) * 1_000_000_000
     }
 
     /// The rows, by fault, then by primary, then by backup.
