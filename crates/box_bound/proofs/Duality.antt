@@ -1,8 +1,8 @@
 -- Weak duality: settings of the box that loosely meet every row cost at least what the dual value says.
 use Rattle.std.specs.Prelude.{slice_get, slice_index, ℤ, pos, negsuc, ◌+ℤ◌, ◌-ℤ◌, ◌≤ℤ◌}
 use Rattle.std.specs.List.{sum_by, All}
-use Rattle.std.proofs.Common.{◌≡◌, ℕ, suc, ◌+◌, ◌-◌, ◌*◌, ◌/◌, ◌<◌, ◌≤◌, List, [], ◌∷◌, length, get_or, Some, None, Option, arith, refl, inl, inr, subst}
-use Rattle.std.specs.Option.{option_map_or, IsSomeAnd}
+use Rattle.std.proofs.Common.{◌≡◌, ℕ, suc, ◌+◌, ◌-◌, ◌*◌, ◌/◌, ◌<◌, ◌≤◌, List, [], ◌∷◌, length, get_or, Some, arith, refl, inl, inr, subst}
+use Rattle.std.specs.Option.{IsSomeAnd}
 use Rattle.std.proofs.lemmas.Nat.{le-div}
 use Rattle.std.proofs.Math.Nat.{div-mul-le_self, mul-le-mul_left, mul-le-mul_right}
 use Rattle.std.proofs.lemmas.Bool.{cases_lt}
@@ -13,23 +13,21 @@ use Rattle.std.proofs.lemmas.Option.{slice_get_within, slice_get-get_or}
 use Rattle.coord_model.specs.Allowed.{IsAllowed, dial_of}
 use Rattle.coord_model.specs.Choice.{Settings}
 use Rattle.coord_model.specs.Cost.{CostsAtLeast, weight_of}
-use Rattle.coord_model.specs.StudyData.{StudyData}
-use Rattle.coord_model.specs.Time.{dial_at}
-use Rattle.coord_model.specs.declared.study.Relay.{Relay}
 use Rattle.coord_model.specs.declared.study.Term.{Term}
 use Rattle.coord_model.specs.declared.weights.Weight.{Weight}
 use Rattle.margin_rows.specs.Box.{Box, IsIn, LiesIn, FitsBox}
 use Rattle.margin_rows.specs.Case.{Case, FitsCase, rows_in, terms_in}
 use Rattle.margin_rows.specs.Dial.{dial_at_step}
 use Rattle.margin_rows.specs.Margin.{interval_ps, time_of, MeetsLoosely}
-use Rattle.margin_rows.specs.Price.{least_sum, lower_cost_of}
+use Rattle.margin_rows.specs.Price.{least_sum, lower_cost_of, term_part}
 use Rattle.margin_rows.specs.Times.{time_at}
 use Rattle.margin_rows.specs.declared.span.Steps.{Steps}
+use Rattle.margin_rows.proofs.Dialled.{dial_rises}
 use Rattle.margin_rows.proofs.Costs.{sums_le, costs_at_least}
 use Rattle.margin_rows.proofs.Boxed.{allowed_in_first_box, set_terms}
 use Rattle.margin_rows.proofs.Listed.{term_facts, row_facts}
 use Rattle.margin_rows.proofs.Placed.{of_some}
-use Rattle.box_bound.specs.DualValue.{row_of, pickups_of, dials_of, term_part, primary_part, gain, loss, at_dial, part, total, IsLeastPart, IsDualValue}
+use Rattle.box_bound.specs.DualValue.{row_of, pickups_of, dials_of, primary_part, gain, loss, at_dial, part, total, IsLeastPart, IsDualValue}
 use Rattle.box_bound.specs.LowerBound.{bound_at}
 use Rattle.box_bound.specs.Weighing.{FitWeights}
 use Rattle.box_bound.proofs.Swaps.{between, between_mixed, swap, total_le}
@@ -55,14 +53,6 @@ ends_suffice low dial high g l z above below at_low at_high = elim (cases_lt g l
       where
         plain : (hg hl hk dg dl dk : ℕ) (z : ℤ) → z ≤ℤ (pos hg -ℤ pos hl) → hg ≡ hl + hk → dg ≡ dl + dk → hk ≤ dk → z ≤ℤ (pos dg -ℤ pos dl)
         plain hg hl hk dg dl dk z a h d b = omega (arith, ints, a, h, d, b)
-
--- a dial rises with its step
-dial_rises : (study : StudyData) (relay s t : ℕ) → s ≤ t → dial_at_step study relay s ≤ dial_at_step study relay t
-dial_rises study relay s t le = go (slice_get study.relays relay)
-  where
-    go : (o : Option Relay) → option_map_or (λ (r : Relay). dial_at r s) o 0 ≤ option_map_or (λ (r : Relay). dial_at r t) o 0
-    go None = omega arith
-    go (Some r) = omega (arith, mul-le-mul_right r.dial_step le)
 
 module _ (case : Case) (box : Box) (lambda : ℕ) (ws : List Weight) (settings : Settings) where
   -- the least part of a relay is at most its part with the settings

@@ -1,24 +1,18 @@
--- What the code reads of a term and of a weighted row is their part.
+-- What the code reads of a weighted row is its part.
 use Rattle.std.specs.Prelude.{slice_get, ◌==◌, if◌then◌else◌}
 use Rattle.std.proofs.Common.{◌≡◌, ℕ, ◌*◌, ◌<◌, List, length, get_or, Some, arith, refl, sym, ap, ◌∙◌}
 use Rattle.std.proofs.lemmas.Bool.Decides.{nat_tests}
-use Rattle.coord_model.specs.Cost.{weight_of}
 use Rattle.coord_model.specs.declared.study.Row.{Row}
-use Rattle.coord_model.specs.declared.study.Term.{Term}
 use Rattle.coord_model.specs.declared.weights.Weight.{Weight}
 use Rattle.margin_rows.specs.Case.{Case, rows_in}
 use Rattle.margin_rows.specs.Times.{time_at}
 use Rattle.margin_rows.proofs.Listed.{IsRowOf, row_facts}
 use Rattle.margin_rows.proofs.Placed.{row_read, found_listed}
-use Rattle.box_bound.specs.DualValue.{row_of, term_part, primary_part, backup_part}
+use Rattle.box_bound.specs.DualValue.{row_of, primary_part, backup_part}
 
 -- what counts where two numbers are the same
 chosen : (k i n : ℕ) → k ≡ i → n ≡ (if k == i then n else 0)
 chosen k i n same = grind (arith, nat_tests)
-
-pub term_is : (case : Case) (i step : ℕ) (term : Term) (a b : ℕ) → term.relay ≡ i → a ≡ weight_of case.study term.fault → b ≡ (time_at case term.fault term.relay step).lower
-    → a * b ≡ term_part case i step term
-term_is case i step term a b same weight time = rw (weight, time, sym same) (chosen term.relay term.relay _ refl)
 
 pub primary_is : (case : Case) (i step : ℕ) (w : Weight) (row : Row) (b : ℕ) → row ≡ row_of case w.row → row.primary ≡ i → b ≡ (time_at case row.fault row.primary step).lower
     → w.weight * b ≡ primary_part case i step w

@@ -3,7 +3,7 @@ use Rattle.std.specs.Prelude.{slice_get}
 use Rattle.std.specs.Option.{IsSomeAnd}
 use Rattle.std.proofs.Common.{◌≡◌, ℕ, suc, ◌<◌, arith, sym, subst}
 use Rattle.std.proofs.lemmas.Option.{get_or_from_slice_get}
-use Rattle.margin_rows.specs.Box.{Box, IsIn, IsShownAs, IsDialStep}
+use Rattle.margin_rows.specs.Box.{Box, IsIn, IsShownAs, IsDialStep, IsFilled}
 use Rattle.margin_rows.specs.Case.{Case}
 use Rattle.margin_rows.specs.FirstBox.{IsFirstStep}
 use Rattle.margin_rows.specs.declared.span.Span.{Span}
@@ -11,7 +11,6 @@ use Rattle.margin_rows.specs.declared.span.Steps.{Steps}
 use Rattle.margin_rows.proofs.Placed.{of_some}
 use Rattle.margin_rows.proofs.Places.{some_and}
 use Rattle.box_bound.specs.DualValue.{pickups_of, dials_of}
-use Rattle.box_bound.specs.Weighing.{IsFilled}
 
 -- the span has a step, is shown by its first and its last one, and each of its steps is a step of the relay
 pub record IsSpanRead (span : Steps) (shown : Span) (IsStep : ℕ → Type 0) : Type 0 where

@@ -2,14 +2,13 @@
 -- and for each relay the least that its times count, over its pickup steps and the two ends of its dials. A time counts
 -- for its cost times lambda, and for the rows by their weights: with the primary's lower end, against the backup's upper end.
 use Rattle.std.specs.Prelude.{◌≡◌, ℕ, suc, ◌+◌, ◌*◌, ◌<◌, ◌==◌, ◌⊎◌, ℤ, pos, ◌+ℤ◌, ◌-ℤ◌, ◌≤ℤ◌, List, [], ◌∷◌, length, sum_by, slice_get, slice_index_or, IsSomeAnd, if◌then◌else◌}
-use Rattle.coord_model.specs.Cost.{weight_of}
 use Rattle.coord_model.specs.declared.study.Row.{Row}
-use Rattle.coord_model.specs.declared.study.Term.{Term}
 use Rattle.coord_model.specs.declared.weights.Weight.{Weight}
 use Rattle.margin_rows.specs.Box.{Box, IsIn}
-use Rattle.margin_rows.specs.Case.{Case, rows_in, terms_in}
+use Rattle.margin_rows.specs.Case.{Case, rows_in}
 use Rattle.margin_rows.specs.Dial.{dial_at_step}
 use Rattle.margin_rows.specs.Margin.{interval_ps}
+use Rattle.margin_rows.specs.Price.{term_sum}
 use Rattle.margin_rows.specs.Times.{time_at}
 use Rattle.margin_rows.specs.declared.span.Steps.{Steps}
 
@@ -24,11 +23,6 @@ pickups_of box i = slice_index_or box.pickup i (record { low = 0; past = 0 })
 abbrev pub dials_of : Box → ℕ → Steps
 dials_of box i = slice_index_or box.dial i (record { low = 0; past = 0 })
 
--- the weighted time of relay i at a pickup step, where the term is its own
-abbrev pub term_part : Case → ℕ → ℕ → Term → ℕ
-term_part case i step term =
-    if term.relay == i then weight_of case.study term.fault * (time_at case term.fault i step).lower else 0
-
 -- the time of relay i by the weight of a row, where the relay is the row's primary
 abbrev pub primary_part : Case → ℕ → ℕ → Weight → ℕ
 primary_part case i step w =
@@ -41,7 +35,7 @@ backup_part case i step w =
 
 -- what a unit of relay i's dial adds: lambda for its terms, and the weights of the rows where it is the primary
 abbrev pub gain : Case → ℕ → List Weight → ℕ → ℕ → ℕ
-gain case lambda weights i step = lambda * sum_by (term_part case i step) (terms_in case) + sum_by (primary_part case i step) weights
+gain case lambda weights i step = lambda * term_sum case i step + sum_by (primary_part case i step) weights
 
 -- what a unit of relay i's dial takes away: the weights of the rows where it is the backup
 abbrev pub loss : Case → List Weight → ℕ → ℕ → ℕ

@@ -5,7 +5,6 @@ ghost use Rattle.box_bound.specs.DualValue.{gain, loss, at_dial};
 ghost use Rattle.box_bound.specs.Weighing.{IsWeighed};
 
 use crate::shares::{backup_sum, primary_sum};
-use crate::terms::term_sum;
 use coord_model::Weight;
 use margin_rows::{Instance, Ranges};
 
@@ -33,7 +32,7 @@ pub fn coefficient_at(
     ensures gain_small { result.gain ≤ 2 ^ 92 }
     ensures loss_small { result.loss ≤ 2 ^ 92 }
 {
-    let cost = u128::from(lambda) * u128::from(term_sum(inst, relay, step));
+    let cost = u128::from(lambda) * u128::from(inst.term_sum(relay, step));
     Coefficient {
         gain: cost + primary_sum(inst, ranges, weights, relay, step),
         loss: backup_sum(inst, ranges, weights, relay, step),

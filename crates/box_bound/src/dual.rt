@@ -3,13 +3,13 @@ ghost use Rattle.std.specs.Prelude.{◌≡◌, ◌<◌, ◌≤◌, ◌*◌, ◌^
 ghost use Rattle.coord_model.specs.Allowed.{IsAllowed};
 ghost use Rattle.coord_model.specs.Choice.{Settings};
 ghost use Rattle.coord_model.specs.Cost.{CostsAtLeast};
-ghost use Rattle.margin_rows.specs.Box.{FitsBox, LiesIn};
+ghost use Rattle.margin_rows.specs.Box.{FitsBox, HasNoEmptySpan, LiesIn};
 ghost use Rattle.margin_rows.specs.Case.{rows_in, FitsCase};
-ghost use Rattle.margin_rows.specs.Margin.{interval_ps, MeetsLoosely};
+ghost use Rattle.margin_rows.specs.Margin.{MeetsLoosely};
 ghost use Rattle.margin_rows.specs.Price.{least_sum};
 ghost use Rattle.box_bound.specs.DualValue.{IsDualValue};
 ghost use Rattle.box_bound.specs.LowerBound.{IsPlainBound};
-ghost use Rattle.box_bound.specs.Weighing.{HasNoEmptySpan, FitWeights};
+ghost use Rattle.box_bound.specs.Weighing.{FitWeights};
 
 use crate::bound::bound_of;
 use crate::least::least_part;
@@ -35,7 +35,7 @@ pub fn value(inst: &Instance, ranges: &Ranges, lambda: u32, weights: &[Weight]) 
     ensures void { lambda ≡ 0 → pos 0 <ℤ result → (settings : Settings) → LiesIn ranges.now settings
         → ¬ (All (MeetsLoosely inst.now settings) (rows_in inst.now)) }
 {
-    let mut sum = (u128::from(interval_ps(inst)) * weight_sum(weights)) as i128;
+    let mut sum = (u128::from(inst.interval_ps()) * weight_sum(weights)) as i128;
     for relay in 0..inst.study().relays.len() as u16 {
         sum += least_part(inst, ranges, lambda, weights, relay);
     }
@@ -66,13 +66,4 @@ fn weight_sum(weights: &[Weight]) -> u128
         sum += u128::from(weight.weight);
     }
     sum
-}
-
-/// The coordination interval, in picoseconds.
-fn interval_ps(inst: &Instance) -> u64
-    ensures exact { result ≡ interval_ps inst.now.study }
-    ensures small { result < 2 ^ 54 }
-    ensures limits { FitsCase inst.now }
-{
-    u64::from(inst.study().cti_ms) * 1_000_000_000
 }

@@ -5,6 +5,7 @@ ghost use Rattle.box_bound.specs.DualValue.{pickups_of, dials_of, IsLeastPart};
 ghost use Rattle.box_bound.specs.Weighing.{IsWeighed};
 
 use crate::coefficient::{at_dial, coefficient_at};
+use crate::touching::touching;
 use coord_model::Weight;
 use margin_rows::{Instance, Ranges, dial_at};
 
@@ -16,6 +17,19 @@ pub fn least_part(
     weights: &[Weight],
     relay: u16,
 ) -> i128
+    requires weighed { IsWeighed inst.now ranges.now weights.now }
+    requires relay { relay < length inst.now.study.relays }
+
+    ensures exact { IsLeastPart inst.now lambda weights.now relay (pickups_of ranges.now relay) (dials_of ranges.now relay) result }
+    ensures not_low { pos 0 ≤ℤ (result +ℤ pos (2 ^ 106)) }
+    ensures not_high { result ≤ℤ pos (2 ^ 106) }
+{
+    let (front, count) = touching(inst, weights, relay);
+    least_over(inst, ranges, lambda, &front[..count], relay)
+}
+
+/// The least part of a relay with these weights.
+fn least_over(inst: &Instance, ranges: &Ranges, lambda: u32, weights: &[Weight], relay: u16) -> i128
     requires weighed { IsWeighed inst.now ranges.now weights.now }
     requires relay { relay < length inst.now.study.relays }
 

@@ -9,7 +9,7 @@ mod coefficient;
 mod dual;
 mod least;
 mod shares;
-mod terms;
+mod touching;
 
 pub use bound::bound_of;
 pub use dual::{plain, value};

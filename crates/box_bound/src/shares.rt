@@ -1,9 +1,10 @@
 //! The sums of a relay's times over the weighted rows, where it is the primary and where it is the backup.
 ghost use Rattle.std.specs.Prelude.{◌≡◌, ◌<◌, ◌≤◌, ◌*◌, ◌^◌, length, sum_by};
+ghost use Rattle.margin_rows.specs.Box.{IsFilled};
 ghost use Rattle.margin_rows.specs.Case.{rows_in};
 ghost use Rattle.margin_rows.specs.FirstBox.{IsFirstStep};
 ghost use Rattle.box_bound.specs.DualValue.{primary_part, backup_part};
-ghost use Rattle.box_bound.specs.Weighing.{IsFilled, IsWeighed};
+ghost use Rattle.box_bound.specs.Weighing.{IsWeighed};
 
 use coord_model::Weight;
 use margin_rows::{Instance, Ranges};

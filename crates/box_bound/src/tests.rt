@@ -1,7 +1,6 @@
 //! Dual values worked out by hand: curve B takes 13.5/(M - 1) seconds at the multiple of pickup M and dial 1.
 ghost use Rattle.std.specs.Prelude.{◌≡◌, ◌<◌, length, IfOk, IsTrue};
-ghost use Rattle.margin_rows.specs.Box.{FitsBox};
-ghost use Rattle.box_bound.specs.Weighing.{HasNoEmptySpan};
+ghost use Rattle.margin_rows.specs.Box.{FitsBox, HasNoEmptySpan};
 
 use crate::{bound_of, plain, value};
 use coord_model::{NoMemory, Weight};

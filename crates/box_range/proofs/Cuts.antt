@@ -3,12 +3,12 @@ use Rattle.std.proofs.Common.{◌≡◌, ℕ, zero, suc, ◌+◌, ◌-◌, ◌<�
 use Rattle.std.specs.List.{Contains}
 use Rattle.std.proofs.lemmas.Bool.{cases_lt}
 use Rattle.coord_model.specs.declared.study.Row.{Row}
-use Rattle.margin_rows.specs.Box.{Box, FitsBox}
+use Rattle.margin_rows.specs.Box.{Box, FitsBox, IsFilled}
 use Rattle.margin_rows.specs.Case.{Case, rows_in}
 use Rattle.margin_rows.specs.declared.span.Steps.{Steps}
 use Rattle.box_range.specs.Drops.{CanMeet, IsDroppable, Drop, Drops, none, next}
 use Rattle.box_range.specs.Kinds.{spans_of, step_of, span_at, with_span, lowest, highest}
-use Rattle.box_range.specs.Meeting.{IsFilled, IsMeetable}
+use Rattle.box_range.specs.Meeting.{IsMeetable}
 use Rattle.box_range.specs.Settled.{IsCut, MeetsAtLow, MeetsAtHigh}
 use Rattle.box_range.specs.declared.kind.Kind.{Kind}
 use Rattle.box_range.specs.declared.kind.Kind.TheVariants.{Pickup, Dial}

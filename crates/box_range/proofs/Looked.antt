@@ -3,13 +3,13 @@ use Rattle.std.specs.List.{Contains}
 use Rattle.std.proofs.Common.{◌≡◌, ℕ, ◌<◌, ◌≤◌, inl, inr, Bool, true, false, length, arith, refl, ap, ◌∙◌}
 use Rattle.std.proofs.lemmas.Bool.{cases_eq}
 use Rattle.coord_model.specs.declared.study.Row.{Row}
-use Rattle.margin_rows.specs.Box.{Box}
+use Rattle.margin_rows.specs.Box.{Box, IsFilled}
 use Rattle.margin_rows.specs.Case.{Case, rows_in}
 use Rattle.margin_rows.specs.declared.span.Steps.{Steps}
 use Rattle.box_range.specs.Drops.{Drops}
 use Rattle.box_range.specs.Kinds.{spans_of, span_at, with_span, HasEmptySpan}
 use Rattle.box_range.specs.Looks.{IsSettling}
-use Rattle.box_range.specs.Meeting.{IsFilled, IsMeetable}
+use Rattle.box_range.specs.Meeting.{IsMeetable}
 use Rattle.box_range.specs.Settled.{IsCut, DiffersAt, MeetsAtLow, MeetsAtHigh, size}
 use Rattle.box_range.specs.declared.kind.Kind.{Kind}
 use Rattle.box_range.specs.declared.kind.Kind.TheVariants.{Dial}

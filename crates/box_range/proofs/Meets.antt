@@ -1,26 +1,23 @@
 -- What the steps of a row's two relays say of the choices of a box.
-use Rattle.std.specs.Prelude.{slice_get, slice_index}
+use Rattle.std.specs.Prelude.{slice_index}
 use Rattle.std.specs.List.{Contains}
-use Rattle.std.specs.Option.{option_map_or}
-use Rattle.std.proofs.Common.{◌≡◌, ◌≢◌, ℕ, ◌+◌, ◌-◌, ◌*◌, ◌<◌, ◌≤◌, List, length, map, get_or, set, Option, Some, None, arith, refl, sym, ap, ◌∙◌, subst, inl, inr}
+use Rattle.std.proofs.Common.{◌≡◌, ◌≢◌, ℕ, ◌+◌, ◌-◌, ◌*◌, ◌<◌, ◌≤◌, List, length, map, get_or, set, arith, refl, sym, ap, ◌∙◌, subst, inl, inr}
 use Rattle.std.proofs.lemmas.Bool.{cases_eq}
 use Rattle.std.proofs.lemmas.List.{length-map, length-set, get_or-set_same, get_or-set_other, get_or-map}
 use Rattle.std.proofs.lemmas.Nat.{mul-le}
 use Rattle.coord_model.specs.Choice.{Settings}
-use Rattle.coord_model.specs.StudyData.{StudyData}
-use Rattle.coord_model.specs.Time.{dial_at}
-use Rattle.coord_model.specs.declared.study.Relay.{Relay}
 use Rattle.coord_model.specs.declared.study.Row.{Row}
-use Rattle.margin_rows.specs.Box.{Box, IsIn, LiesIn, FitsBox, IsDialStep}
+use Rattle.margin_rows.specs.Box.{Box, IsIn, LiesIn, FitsBox, IsDialStep, HasNoEmptySpan, IsFilled}
 use Rattle.margin_rows.specs.Case.{Case, rows_in, FitsCase}
 use Rattle.margin_rows.specs.Dial.{dial_at_step}
 use Rattle.margin_rows.specs.FirstBox.{IsFirstStep}
 use Rattle.margin_rows.specs.Margin.{MeetsLoosely, interval_ps}
 use Rattle.margin_rows.specs.Times.{time_at}
 use Rattle.margin_rows.specs.declared.span.Steps.{Steps}
+use Rattle.margin_rows.proofs.Dialled.{dial_rises}
 use Rattle.box_range.specs.Drops.{CanMeet}
-use Rattle.box_range.specs.Kinds.{spans_of, step_of, span_at, HasSteps}
-use Rattle.box_range.specs.Meeting.{IsFilled, IsMeetable, HasRelays, AreFirst, MeetsWith, relay_of, best_steps, with_step}
+use Rattle.box_range.specs.Kinds.{spans_of, step_of, span_at}
+use Rattle.box_range.specs.Meeting.{IsMeetable, HasRelays, AreFirst, MeetsWith, relay_of, best_steps, with_step}
 use Rattle.box_range.specs.declared.kind.Kind.{Kind}
 use Rattle.box_range.specs.declared.kind.Kind.TheVariants.{Pickup, Dial}
 use Rattle.box_range.specs.declared.row.Part.{Part}
@@ -60,14 +57,6 @@ in_box_first case box row steps fits relays is = record {
   primary_pickup = some_each box.pickup (λ i span. IsIn span steps.primary_pickup → IsFirstStep case i steps.primary_pickup) no_span (λ i. fits.pickup i steps.primary_pickup) row.primary (relays.primary Pickup) is.primary_pickup;
   primary_dial = some_each box.dial (λ i span. IsIn span steps.primary_dial → IsDialStep case i steps.primary_dial) no_span (λ i. fits.dial i steps.primary_dial) row.primary (relays.primary Dial) is.primary_dial;
 }
-
--- a dial rises with its step
-dial_rises : (study : StudyData) (relay s t : ℕ) → s ≤ t → dial_at_step study relay s ≤ dial_at_step study relay t
-dial_rises study relay s t le = go (slice_get study.relays relay)
-  where
-    go : (o : Option Relay) → option_map_or (λ (r : Relay). dial_at r s) o 0 ≤ option_map_or (λ (r : Relay). dial_at r t) o 0
-    go None = omega arith
-    go (Some r) = omega (arith, mul-le s r.dial_step t r.dial_step le (omega arith))
 
 better_meets : (case : Case) (row : Row) (worse better : RowSteps) → FitsCase case → Contains (rows_in case) row → AreFirst case row worse → AreFirst case row better
     → AreBetter worse better → MeetsWith case row worse → MeetsWith case row better
@@ -128,7 +117,7 @@ choice_with box row steps = record {
   dial = chosen box.dial row.backup steps.backup_dial row.primary steps.primary_dial;
 }
 
-choice_lies : (box : Box) (row : Row) (steps : RowSteps) → HasSteps box → row.backup ≢ row.primary → AreInBox box row steps → LiesIn box (choice_with box row steps)
+choice_lies : (box : Box) (row : Row) (steps : RowSteps) → HasNoEmptySpan box → row.backup ≢ row.primary → AreInBox box row steps → LiesIn box (choice_with box row steps)
 unfolding choice_with
 choice_lies box row steps some apart is =
     lies box (choice_with box row steps) (chosen_count box.pickup row.backup steps.backup_pickup row.primary steps.primary_pickup)
@@ -167,13 +156,13 @@ step_for_with Primary Pickup steps step = refl
 step_for_with Primary Dial steps step = refl
 
 -- steps of the box that meet the row give a choice of the box that does
-meets_settings : (case : Case) (box : Box) (row : Row) (steps : RowSteps) → HasSteps box → HasRelays box row → row.backup ≢ row.primary → AreInBox box row steps → MeetsWith case row steps
+meets_settings : (case : Case) (box : Box) (row : Row) (steps : RowSteps) → HasNoEmptySpan box → HasRelays box row → row.backup ≢ row.primary → AreInBox box row steps → MeetsWith case row steps
     → (settings : Settings) × LiesIn box settings × (steps_at settings row ≡ steps) × MeetsLoosely case settings row
 meets_settings case box row steps some relays apart is meets =
     let same = choice_steps box row steps relays apart in
     (choice_with box row steps, choice_lies box row steps some apart is, same, subst (λ (s : RowSteps). MeetsWith case row s) (sym same) meets)
 
-best_in_box : (box : Box) (row : Row) → HasSteps box → HasRelays box row → AreInBox box row (best_steps box row)
+best_in_box : (box : Box) (row : Row) → HasNoEmptySpan box → HasRelays box row → AreInBox box row (best_steps box row)
 best_in_box box row some relays = record {
   backup_pickup = highest (span_at Pickup box row.backup) (has_steps box Pickup row.backup some (relays.backup Pickup));
   backup_dial = highest (span_at Dial box row.backup) (has_steps box Dial row.backup some (relays.backup Dial));

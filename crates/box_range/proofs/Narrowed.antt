@@ -2,13 +2,12 @@
 use Rattle.std.specs.List.{Contains}
 use Rattle.std.proofs.Common.{◌≡◌, ℕ, ◌+◌, ◌-◌, ◌<◌, ◌≤◌, arith, ap}
 use Rattle.coord_model.specs.declared.study.Row.{Row}
-use Rattle.margin_rows.specs.Box.{Box}
+use Rattle.margin_rows.specs.Box.{Box, IsFilled}
 use Rattle.margin_rows.specs.Case.{Case, rows_in}
 use Rattle.margin_rows.specs.declared.span.Span.{Span}
 use Rattle.margin_rows.specs.declared.span.Steps.{Steps}
 use Rattle.box_range.specs.Drops.{CanMeet}
 use Rattle.box_range.specs.Kinds.{span_at, with_span}
-use Rattle.box_range.specs.Meeting.{IsFilled}
 use Rattle.box_range.specs.Settled.{IsCut, MeetsAtLow, MeetsAtHigh}
 use Rattle.box_range.specs.declared.kind.Kind.{Kind}
 use Rattle.box_range.proofs.Cuts.{cut_low, cut_high, cut_can}

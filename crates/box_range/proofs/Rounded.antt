@@ -5,10 +5,10 @@ use Rattle.std.proofs.Common.{◌≡◌, ℕ, ◌+◌, ◌<◌, ◌≤◌, ◌�
 use Rattle.std.proofs.lemmas.Bool.{cases_eq}
 use Rattle.std.proofs.lemmas.Option.{slice_get-get_or}
 use Rattle.coord_model.specs.declared.study.Row.{Row}
-use Rattle.margin_rows.specs.Box.{Box}
+use Rattle.margin_rows.specs.Box.{Box, IsFilled}
 use Rattle.margin_rows.specs.Case.{Case, rows_in}
 use Rattle.box_range.specs.Drops.{Drops, none}
-use Rattle.box_range.specs.Meeting.{HasRow, IsFilled}
+use Rattle.box_range.specs.Meeting.{HasRow}
 use Rattle.box_range.specs.Rounds.{IsDue, IsDueOrSettled, IsIdle, IsBusy, IsUnfinished, AreSettled}
 use Rattle.box_range.specs.Settled.{size}
 use Rattle.box_range.proofs.Order.{drops_drops}

@@ -7,14 +7,14 @@ use Rattle.coord_model.specs.Allowed.{IsSensible}
 use Rattle.coord_model.specs.Limits.{FitsRelay}
 use Rattle.coord_model.specs.declared.study.Relay.{Relay}
 use Rattle.coord_model.specs.declared.study.Row.{Row}
-use Rattle.margin_rows.specs.Box.{Box, IsIn, IsShownAs, IsDialStep}
+use Rattle.margin_rows.specs.Box.{Box, IsIn, IsShownAs, IsDialStep, IsFilled}
 use Rattle.margin_rows.specs.Case.{Case, rows_in, FitsCase}
 use Rattle.margin_rows.specs.FirstBox.{IsFirstStep}
 use Rattle.margin_rows.specs.declared.span.Span.{Span}
 use Rattle.margin_rows.specs.declared.span.Steps.{Steps}
 use Rattle.margin_rows.proofs.Placed.{found_listed}
 use Rattle.box_range.specs.Kinds.{spans_of, span_at}
-use Rattle.box_range.specs.Meeting.{IsFilled, relay_of}
+use Rattle.box_range.specs.Meeting.{relay_of}
 use Rattle.box_range.specs.declared.kind.Kind.{Kind}
 use Rattle.box_range.specs.declared.kind.Kind.TheVariants.{Pickup, Dial}
 use Rattle.box_range.specs.declared.row.Part.{Part}

@@ -7,10 +7,10 @@ use Rattle.std.proofs.lemmas.List.{ext_get_or, length-set, get_or-set_same, get_
 use Rattle.std.proofs.lemmas.Option.{slice_get-get_or, slice_get_within, slice_get_past, get_or_from_slice_get}
 use Rattle.std.proofs.lemmas.Bool.{cases_lt}
 use Rattle.coord_model.specs.Choice.{Settings}
-use Rattle.margin_rows.specs.Box.{Box, IsIn, LiesIn}
+use Rattle.margin_rows.specs.Box.{Box, IsIn, LiesIn, HasNoEmptySpan}
 use Rattle.margin_rows.specs.declared.span.Steps.{Steps}
 use Rattle.margin_rows.proofs.Placed.{if_some, of_some}
-use Rattle.box_range.specs.Kinds.{spans_of, step_of, with_span, span_at, HasSpan, HasSteps}
+use Rattle.box_range.specs.Kinds.{spans_of, step_of, with_span, span_at, HasSpan}
 use Rattle.box_range.specs.declared.kind.Kind.{Kind}
 use Rattle.box_range.specs.declared.kind.Kind.TheVariants.{Pickup, Dial}
 
@@ -36,11 +36,15 @@ each_some xs P d h i =
 pub some_each : {X : Type 0} (xs : List X) (P : ℕ → X → Type 0) (d : X) → ((i : ℕ) → IfSome (slice_get xs i) (P i)) → (i : ℕ) → i < length xs → P i (get_or xs i d)
 some_each xs P d h i below = of_some (slice_get xs i) (P i) (get_or xs i d) (slice_get-get_or xs i d below) (h i)
 
-pub has_steps : (box : Box) (kind : Kind) (relay : ℕ) → HasSteps box → relay < length (spans_of kind box) → (span_at kind box relay).low < (span_at kind box relay).past
-has_steps box kind relay h below = some_each (spans_of kind box) (λ i span. span.low < span.past) no_span (h kind) relay below
+pub has_steps : (box : Box) (kind : Kind) (relay : ℕ) → HasNoEmptySpan box → relay < length (spans_of kind box) → (span_at kind box relay).low < (span_at kind box relay).past
+has_steps box Pickup relay h below = some_each box.pickup (λ i span. span.low < span.past) no_span h.pickup relay below
+has_steps box Dial relay h below = some_each box.dial (λ i span. span.low < span.past) no_span h.dial relay below
 
-pub steps_have : (box : Box) → ((kind : Kind) (relay : ℕ) → relay < length (spans_of kind box) → (span_at kind box relay).low < (span_at kind box relay).past) → HasSteps box
-steps_have box h = λ kind. each_some (spans_of kind box) (λ i span. span.low < span.past) no_span (h kind)
+pub steps_have : (box : Box) → ((kind : Kind) (relay : ℕ) → relay < length (spans_of kind box) → (span_at kind box relay).low < (span_at kind box relay).past) → HasNoEmptySpan box
+steps_have box h = record {
+  pickup = each_some box.pickup (λ i span. span.low < span.past) no_span (h Pickup);
+  dial = each_some box.dial (λ i span. span.low < span.past) no_span (h Dial);
+}
 
 pub lies_at : (box : Box) (settings : Settings) (kind : Kind) (relay : ℕ) → LiesIn box settings → relay < length (spans_of kind box)
     → IsIn (span_at kind box relay) (step_of kind settings relay)

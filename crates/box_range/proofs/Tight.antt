@@ -6,12 +6,12 @@ use Rattle.std.proofs.lemmas.Bool.{cases_eq}
 use Rattle.std.proofs.lemmas.List.{length-set, get_or-set_same, get_or-set_other}
 use Rattle.coord_model.specs.Choice.{Settings}
 use Rattle.coord_model.specs.declared.study.Row.{Row}
-use Rattle.margin_rows.specs.Box.{Box, IsIn, AreIn, LiesIn}
+use Rattle.margin_rows.specs.Box.{Box, IsIn, AreIn, LiesIn, IsFilled}
 use Rattle.margin_rows.specs.Case.{Case, rows_in}
 use Rattle.margin_rows.specs.declared.span.Steps.{Steps}
 use Rattle.box_range.specs.Drops.{CanMeet, IsTight}
 use Rattle.box_range.specs.Kinds.{spans_of, step_of, span_at, Side, lowest, highest, end_of}
-use Rattle.box_range.specs.Meeting.{IsFilled, MeetsWith}
+use Rattle.box_range.specs.Meeting.{MeetsWith}
 use Rattle.box_range.specs.Rounds.{AreSettled}
 use Rattle.box_range.specs.Settled.{IsSettled}
 use Rattle.box_range.specs.declared.kind.Kind.{Kind}

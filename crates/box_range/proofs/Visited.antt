@@ -4,14 +4,14 @@ use Rattle.std.specs.List.{Contains}
 use Rattle.std.proofs.Common.{◌≡◌, ℕ, ◌-◌, ◌⊎◌, inl, inr, Bool, true, false, List, length, arith, refl, sym, subst}
 use Rattle.std.proofs.lemmas.Bool.{cases_eq}
 use Rattle.coord_model.specs.declared.study.Row.{Row}
-use Rattle.margin_rows.specs.Box.{Box, IsIn}
+use Rattle.margin_rows.specs.Box.{Box, IsIn, IsFilled}
 use Rattle.margin_rows.specs.Case.{Case, rows_in, FitsCase}
 use Rattle.margin_rows.specs.declared.span.Steps.{Steps}
 use Rattle.margin_rows.proofs.Listed.{row_facts}
 use Rattle.box_range.specs.Drops.{CanMeet}
 use Rattle.box_range.specs.Kinds.{span_at}
 use Rattle.box_range.specs.Looks.{IsSettling, IsUnmoved}
-use Rattle.box_range.specs.Meeting.{IsFilled, MeetsWith, best_steps, with_step, relay_of}
+use Rattle.box_range.specs.Meeting.{MeetsWith, best_steps, with_step, relay_of}
 use Rattle.box_range.specs.Rounds.{IsDue, IsDueOrSettled, HasPlaces, AreFlagged, IsIdle, IsBusy}
 use Rattle.box_range.specs.Settled.{IsSettled}
 use Rattle.box_range.specs.declared.kind.Kind.{Kind}

@@ -1,5 +1,5 @@
 -- The pickup spans and the dial spans of a box, and the ends of a span (ours).
-use Rattle.std.specs.Prelude.{◌≡◌, ℕ, suc, ◌-◌, ◌<◌, List, Some, slice_get, slice_index, slice_index_or, IfSome}
+use Rattle.std.specs.Prelude.{◌≡◌, ℕ, suc, ◌-◌, List, Some, slice_get, slice_index, slice_index_or}
 use Rattle.coord_model.specs.Choice.{Settings}
 use Rattle.margin_rows.specs.Box.{Box, IsEmpty, with_pickup, with_dial}
 use Rattle.margin_rows.specs.declared.span.Steps.{Steps}
@@ -28,10 +28,6 @@ span_at kind box relay = slice_index_or (spans_of kind box) relay (record { low 
 -- the relay has this span in the box
 abbrev pub HasSpan : Box → Kind → ℕ → Steps → Type 0
 HasSpan box kind relay span = slice_get (spans_of kind box) relay ≡ Some span
-
--- each span of the box has a step
-abbrev pub HasSteps : Box → Type 0
-HasSteps box = (kind : Kind) (relay : ℕ) → IfSome (slice_get (spans_of kind box) relay) (λ span. span.low < span.past)
 
 -- some span of the box has no step
 abbrev pub HasEmptySpan : Box → Type 0

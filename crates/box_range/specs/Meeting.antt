@@ -2,13 +2,13 @@
 use Rattle.std.specs.Prelude.{◌≡◌, ℕ, ◌+◌, ◌-◌, ◌*◌, ◌<◌, ◌≤◌, Some, length, slice_get}
 use Rattle.coord_model.specs.Choice.{Settings}
 use Rattle.coord_model.specs.declared.study.Row.{Row}
-use Rattle.margin_rows.specs.Box.{Box, FitsBox, LiesIn, IsDialStep}
-use Rattle.margin_rows.specs.Case.{Case, rows_in, FitsCase}
+use Rattle.margin_rows.specs.Box.{Box, LiesIn, IsDialStep}
+use Rattle.margin_rows.specs.Case.{Case, rows_in}
 use Rattle.margin_rows.specs.Dial.{dial_at_step}
 use Rattle.margin_rows.specs.FirstBox.{IsFirstStep}
 use Rattle.margin_rows.specs.Margin.{interval_ps, MeetsLoosely}
 use Rattle.margin_rows.specs.Times.{time_at}
-use Rattle.box_range.specs.Kinds.{spans_of, span_at, HasSteps}
+use Rattle.box_range.specs.Kinds.{spans_of, span_at}
 use Rattle.box_range.specs.declared.kind.Kind.{Kind}
 use Rattle.box_range.specs.declared.kind.Kind.TheVariants.{Pickup, Dial}
 use Rattle.box_range.specs.declared.row.Part.{Part}
@@ -18,12 +18,6 @@ use Rattle.box_range.specs.declared.row.RowSteps.{RowSteps}
 -- the row has this number
 abbrev pub HasRow : Case → ℕ → Row → Type 0
 HasRow case number row = slice_get (rows_in case) number ≡ Some row
-
--- the case is within the limits, and the box lies in its first box and has a step in each span
-pub record IsFilled (case : Case) (box : Box) : Type 0 where
-  pub limits : FitsCase case
-  pub fits : FitsBox case box
-  pub steps : HasSteps box
 
 -- some choice of the box loosely meets the row
 pub record IsMeetable (case : Case) (box : Box) (row : Row) : Type 0 where

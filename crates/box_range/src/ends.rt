@@ -1,10 +1,10 @@
 //! The ends of a row's spans that the row can make useless: the lowest steps of its backup and the highest of its
 //! primary. A step is useless where no choice of the box with it meets the row.
 ghost use Rattle.std.specs.Prelude.{◌≡◌, ℕ, ◌-◌, ◌<◌, ◌≤◌, true, false};
-ghost use Rattle.margin_rows.specs.Box.{IsIn};
+ghost use Rattle.margin_rows.specs.Box.{IsIn, IsFilled};
 ghost use Rattle.box_range.specs.Drops.{CanMeet};
 ghost use Rattle.box_range.specs.Kinds.{span_at};
-ghost use Rattle.box_range.specs.Meeting.{HasRow, IsFilled, IsMeetable};
+ghost use Rattle.box_range.specs.Meeting.{HasRow, IsMeetable};
 ghost use Rattle.box_range.specs.Settled.{MeetsAtLow, MeetsAtHigh, IsCut, DiffersAt, size};
 
 use crate::kind::{Kind, set_span, span};

@@ -1,8 +1,9 @@
 //! A look at one row of a box.
 ghost use Rattle.std.specs.Prelude.{◌≡◌, ◌<◌, true, false, length};
+ghost use Rattle.margin_rows.specs.Box.{HasNoEmptySpan, IsFilled};
 ghost use Rattle.box_range.specs.Drops.{Drops};
-ghost use Rattle.box_range.specs.Kinds.{spans_of, span_at, with_span, HasSteps};
-ghost use Rattle.box_range.specs.Meeting.{HasRow, IsFilled, IsMeetable};
+ghost use Rattle.box_range.specs.Kinds.{spans_of, span_at, with_span};
+ghost use Rattle.box_range.specs.Meeting.{HasRow, IsMeetable};
 ghost use Rattle.box_range.specs.Settled.{MeetsAtLow, MeetsAtHigh, IsCut, DiffersAt, size};
 ghost use Rattle.box_range.specs.Looks.{IsLook, IsSettling};
 ghost use Rattle.box_range.specs.declared.kind.Kind.TheVariants.{Dial};
@@ -93,7 +94,7 @@ fn lower_both(inst: &Instance, ranges: &mut Ranges, at: Place) -> bool
 /// Leaves a relay no dial step.
 fn clear(ranges: &mut Ranges, relay: u16)
     requires relay { relay < length (spans_of Dial ranges.old) }
-    requires steps { HasSteps ranges.old }
+    requires steps { HasNoEmptySpan ranges.old }
     ensures { ranges.new ≡ with_span Dial ranges.old relay (record { low = (span_at Dial ranges.old relay).low; past = (span_at Dial ranges.old relay).low }) }
 {
     let low = span(ranges, Kind::Dial, relay).lo;

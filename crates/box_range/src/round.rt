@@ -1,9 +1,10 @@
 //! Rounds of looks at the rows of a box, as far as a relay of theirs lost steps.
 ghost use Rattle.std.specs.Prelude.{◌≡◌, ℕ, ◌<◌, ◌⊎◌, true, false, length, Contains, IsTrue, ◌↔◌, slice_index_or};
 ghost use Rattle.coord_model.specs.declared.study.Row.{Row};
+ghost use Rattle.margin_rows.specs.Box.{IsFilled};
 ghost use Rattle.margin_rows.specs.Case.{rows_in};
 ghost use Rattle.box_range.specs.Drops.{Drops};
-ghost use Rattle.box_range.specs.Meeting.{HasRow, IsFilled};
+ghost use Rattle.box_range.specs.Meeting.{HasRow};
 ghost use Rattle.box_range.specs.Rounds.{IsDue, IsDueOrSettled, IsVisit, IsRound, HasPlaces, AreFlagged};
 
 use crate::look::{Look, Moved, look_at};

@@ -1,10 +1,9 @@
 //! Whether a row can be met: its two relays and their steps.
 ghost use Rattle.std.specs.Prelude.{◌≡◌, ◌<◌, ◌^◌, ◌↔◌, IsTrue};
-ghost use Rattle.margin_rows.specs.Box.{IsIn};
-ghost use Rattle.margin_rows.specs.Margin.{interval_ps};
+ghost use Rattle.margin_rows.specs.Box.{IsIn, HasNoEmptySpan, IsFilled};
 ghost use Rattle.box_range.specs.Drops.{CanMeet};
-ghost use Rattle.box_range.specs.Kinds.{span_at, HasSteps};
-ghost use Rattle.box_range.specs.Meeting.{HasRow, IsFilled, IsMeetable, AreFirst, MeetsWith, HasRelays, relay_of, best_steps, with_step};
+ghost use Rattle.box_range.specs.Kinds.{span_at};
+ghost use Rattle.box_range.specs.Meeting.{HasRow, IsMeetable, AreFirst, MeetsWith, HasRelays, relay_of, best_steps, with_step};
 
 use crate::kind::{Kind, span};
 use coord_model::Row;
@@ -61,7 +60,7 @@ pub fn can_meet(
 
 /// The steps of a box at which a row is met best: the backup as slow and the primary as quick as can be.
 fn best(ranges: &Ranges, row: Row) -> RowSteps
-    requires steps { HasSteps ranges.now }
+    requires steps { HasNoEmptySpan ranges.now }
     requires relays { HasRelays ranges.now row }
     ensures { result ≡ best_steps ranges.now row }
 {
@@ -122,13 +121,5 @@ fn meets(inst: &Instance, at: Place, steps: RowSteps) -> bool
     let (backup, primary) = inst.row_times(at.number, steps.backup_pickup, steps.primary_pickup);
     let latest = dial_at(inst, at.row.backup, steps.backup_dial) * backup.1;
     let earliest = dial_at(inst, at.row.primary, steps.primary_dial) * primary.0;
-    earliest + interval_ps(inst) <= latest
-}
-
-/// The coordination interval, in picoseconds.
-fn interval_ps(inst: &Instance) -> u64
-    ensures exact { result ≡ interval_ps inst.now.study }
-    ensures small { result < 2 ^ 54 }
-{
-    u64::from(inst.study().cti_ms) * 1_000_000_000
+    earliest + inst.interval_ps() <= latest
 }

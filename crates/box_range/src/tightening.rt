@@ -1,11 +1,10 @@
 //! The tight box: what is left once every end that no choice can use is dropped.
 ghost use Rattle.std.specs.Prelude.{◌≡◌, ◌<◌, ◌↔◌, true, false, length, IsTrue};
 ghost use Rattle.coord_model.specs.Choice.{Settings};
-ghost use Rattle.margin_rows.specs.Box.{Box, LiesIn, FitsBox};
+ghost use Rattle.margin_rows.specs.Box.{Box, LiesIn, FitsBox, HasNoEmptySpan, IsFilled};
 ghost use Rattle.box_range.specs.Drops.{Drops, IsTight, IsEmptied, MeetsAllLoosely};
 ghost use Rattle.box_range.specs.Ends.{HasEnded};
-ghost use Rattle.box_range.specs.Kinds.{spans_of, span_at, HasSteps, HasEmptySpan};
-ghost use Rattle.box_range.specs.Meeting.{IsFilled};
+ghost use Rattle.box_range.specs.Kinds.{spans_of, span_at, HasEmptySpan};
 ghost use Rattle.box_range.specs.declared.kind.Kind.{Kind};
 ghost use Rattle.box_range.specs.declared.tightening.Tightened.TheVariants.{Tight, Emptied};
 
@@ -78,7 +77,7 @@ fn settle_rows(inst: &Instance, ranges: &mut Ranges) -> Tightened
 fn has_empty_span(ranges: &Ranges, relays: u16) -> bool
     requires { (kind : Kind) → length (spans_of kind ranges.now) ≡ relays }
     ensures empty { result ≡ true → HasEmptySpan ranges.now }
-    ensures steps { result ≡ false → HasSteps ranges.now }
+    ensures steps { result ≡ false → HasNoEmptySpan ranges.now }
 {
     for relay in 0..relays {
         if lacks_step(ranges, relay) {

@@ -1,14 +1,17 @@
 -- The dials of the relays.
 use Rattle.std.specs.Prelude.{slice_get, slice_index}
-use Rattle.std.proofs.Common.{◌≡◌, ℕ, ◌-◌, ◌*◌, ◌<◌, ◌≤◌, Some, arith, length}
+use Rattle.std.specs.Option.{option_map_or}
+use Rattle.std.proofs.Common.{◌≡◌, ℕ, ◌-◌, ◌*◌, ◌<◌, ◌≤◌, Some, None, Option, arith, length}
 use Rattle.std.proofs.Math.Nat.{mul-le-mul_right}
 use Rattle.coord_model.specs.Allowed.{AreOnSteps, IsOnSteps}
 use Rattle.coord_model.specs.Choice.{Settings}
 use Rattle.coord_model.specs.Limits.{FitsRelay}
+use Rattle.coord_model.specs.StudyData.{StudyData}
 use Rattle.coord_model.specs.Time.{dial_at}
 use Rattle.coord_model.specs.declared.study.Relay.{Relay}
 use Rattle.margin_rows.specs.Box.{IsDialStep}
 use Rattle.margin_rows.specs.Case.{Case, FitsCase}
+use Rattle.margin_rows.specs.Dial.{dial_at_step}
 use Rattle.margin_rows.proofs.Placed.{of_some}
 use Rattle.margin_rows.proofs.Places.{and_some}
 use Rattle.margin_rows.proofs.Timed.{at_place}
@@ -28,3 +31,11 @@ dial_on_step case settings i on_steps below =
     let there = in_list case.study.relays i below in
     let steps = of_some (slice_get case.study.relays i) (λ relay. IsOnSteps relay (slice_index settings.pickup i) (slice_index settings.dial i)) there.0 there.1 (on_steps.steps i) in
     and_some (slice_get case.study.relays i) (λ r. slice_index settings.dial i < r.dial_count) there.0 there.1 steps.dial_step
+
+-- a later dial step has no lower dial
+pub dial_rises : (study : StudyData) (i step later : ℕ) → step ≤ later → dial_at_step study i step ≤ dial_at_step study i later
+dial_rises study i step later rises = go (slice_get study.relays i)
+  where
+    go : (o : Option Relay) → option_map_or (λ relay. dial_at relay step) o 0 ≤ option_map_or (λ relay. dial_at relay later) o 0
+    go None = omega arith
+    go (Some relay) = omega (arith, mul-le-mul_right relay.dial_step rises)

@@ -18,6 +18,7 @@ pub mod Ran
 pub mod Reached
 pub mod Rising
 pub mod Spanned
+pub mod Summed
 pub mod Timed
 pub mod WaitingRows
 pub mod Widths

@@ -19,13 +19,13 @@ use Rattle.margin_rows.proofs.Places.{some_and}
 use Rattle.margin_rows.proofs.Ran.{HoldsBoth}
 
 -- a step of the first box has its time in a run
-run_time : (case : Case) (times : List (ℕ × ℕ)) (f i start step : ℕ) → IsUsed case.study case.currents f i → IsFirstStep case i step → HoldsRun case times f i start
+pub run_time : (case : Case) (times : List (ℕ × ℕ)) (f i start step : ℕ) → IsUsed case.study case.currents f i → IsFirstStep case i step → HoldsRun case times f i start
     → slice_get times (start + step) ≡ Some (ends (time_at case f i step))
 run_time case times f i start step used first run =
     run.each step (first_step_senses case f i step used first)
 
 -- and the time is ordinary
-first_ordinary : (case : Case) (f i step : ℕ) → FitsCase case → IsUsed case.study case.currents f i → IsFirstStep case i step → IsOrdinary (time_at case f i step)
+pub first_ordinary : (case : Case) (f i step : ℕ) → FitsCase case → IsUsed case.study case.currents f i → IsFirstStep case i step → IsOrdinary (time_at case f i step)
 first_ordinary case f i step fits used first = sensed_time_is_ordinary case f i step fits (first_step_senses case f i step used first)
 
 -- the row with a number, the places of its times, and the times

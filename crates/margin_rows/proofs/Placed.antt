@@ -1,16 +1,15 @@
 -- Facts of the row, and of the term, with a number.
 use Rattle.std.specs.Prelude.{slice_get, pos, ◌≤ℤ◌}
 use Rattle.std.specs.Option.{IfSome, option_map_or}
-use Rattle.std.specs.List.{Contains, All, filter, sum_by}
+use Rattle.std.specs.List.{Contains, All, sum_by}
 use Rattle.std.proofs.Common.{◌≡◌, ℕ, ◌+◌, ◌*◌, ◌^◌, ◌<◌, ◌≤◌, ◌↔◌, List, length, get_or, take, Some, None, Option, arith, refl, sym, ap, ◌∙◌, subst}
 use Rattle.std.proofs.lemmas.Int.{ints}
-use Rattle.std.proofs.lemmas.List.{length-map, get_or_default, take_all}
+use Rattle.std.proofs.lemmas.List.{get_or_default, take_all}
 use Rattle.std.proofs.lemmas.List.Concat.{length-flat_map}
 use Rattle.std.proofs.lemmas.List.FromFn.{length-range_with_len}
-use Rattle.std.proofs.lemmas.List.Sums.{sum_by-le, length-filter, count_by-le-length, sum_by_more}
+use Rattle.std.proofs.lemmas.List.Sums.{sum_by-le, sum_by_more}
 use Rattle.std.proofs.lemmas.Option.{slice_get-get_or, slice_get_within, get_or_from_slice_get}
-use Rattle.std.proofs.lemmas.Nat.{mul-le}
-use Rattle.coord_model.specs.Rows.{is_primary, terms_at, relay_numbers, fault_numbers}
+use Rattle.coord_model.specs.Rows.{terms_at, fault_numbers}
 use Rattle.coord_model.specs.Cost.{weight_of}
 use Rattle.coord_model.specs.Limits.{FitsStudy}
 use Rattle.coord_model.specs.StudyData.{StudyData}

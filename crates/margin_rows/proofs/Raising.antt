@@ -8,7 +8,7 @@ use Rattle.std.proofs.lemmas.List.Sums.{sum_by-set, sum_by-cons}
 use Rattle.std.proofs.lemmas.Option.{slice_get_within, get_or_from_slice_get}
 use Rattle.std.specs.Int.{div_ceil}
 use Rattle.std.specs.List.{All, sum_by}
-use Rattle.std.specs.Option.{IfSome, IsSomeAnd, option_map_or}
+use Rattle.std.specs.Option.{IfSome, IsSomeAnd}
 use Rattle.coord_model.proofs.Quotients.{ceil_covers, ceil_least}
 use Rattle.coord_model.specs.Allowed.{IsOnSteps, IsSensible}
 use Rattle.coord_model.specs.Choice.{Settings}
@@ -28,21 +28,13 @@ use Rattle.margin_rows.specs.Times.{time_at, ends, IsOrdinary}
 use Rattle.margin_rows.specs.declared.least.Rise.{Rise}
 use Rattle.margin_rows.specs.declared.least.Rise.TheVariants.{Kept, Rose, Beyond}
 use Rattle.margin_rows.specs.declared.least.Wait.{Wait}
-use Rattle.margin_rows.proofs.Dialled.{dial_on_step}
+use Rattle.margin_rows.proofs.Dialled.{dial_on_step, dial_rises}
 use Rattle.margin_rows.proofs.Listed.{IsRowOf, row_facts}
 use Rattle.margin_rows.proofs.Lowered.{zeros_at}
 use Rattle.margin_rows.proofs.Placed.{of_some, found_listed, all_rows, ends_small}
 use Rattle.margin_rows.proofs.Places.{and_some}
 use Rattle.margin_rows.proofs.Timed.{at_place}
 use Rattle.margin_rows.proofs.Written.{in_list}
-
--- a later dial step has no lower dial
-dial_rises : (study : StudyData) (i step later : ℕ) → step ≤ later → dial_at_step study i step ≤ dial_at_step study i later
-dial_rises study i step later rises = go (slice_get study.relays i)
-  where
-    go : (o : Option Relay) → option_map_or (λ relay. dial_at relay step) o 0 ≤ option_map_or (λ relay. dial_at relay later) o 0
-    go None = omega arith
-    go (Some relay) = omega (arith, mul-le-mul_right relay.dial_step rises)
 
 -- the dial of a relay that is there
 dial_there : (study : StudyData) (i step : ℕ) (relay : Relay) → slice_get study.relays i ≡ Some relay → dial_at_step study i step ≡ dial_at relay step

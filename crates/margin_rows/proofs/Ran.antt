@@ -1,5 +1,5 @@
 -- Runs of times: where they begin, and that they stay as the list grows.
-use Rattle.std.specs.Prelude.{slice_get}
+use Rattle.std.specs.Prelude.{slice_get, slice_index}
 use Rattle.std.proofs.Common.{◌≡◌, ℕ, ◌+◌, ◌*◌, ◌<◌, Bool, true, false, cond, leb, List, [], ◌∷◌, ◌++◌, length, set, get_or, Some, Option, arith, refl, sym, ap, ◌∙◌, inl, inr, subst}
 use Rattle.std.specs.Option.{IsSomeAnd}
 use Rattle.std.proofs.lemmas.Bool.{le-leb, leb-true, cases_eq}
@@ -15,8 +15,8 @@ use Rattle.coord_model.specs.declared.study.Relay.{Relay}
 use Rattle.coord_model.specs.declared.study.Row.{Row}
 use Rattle.coord_model.specs.declared.study.Term.{Term}
 use Rattle.margin_rows.specs.declared.runs.RowRuns.{RowRuns}
-use Rattle.margin_rows.specs.Case.{Case}
-use Rattle.margin_rows.specs.Tables.{cell, cells, Extends, HoldsRun, HoldsRuns}
+use Rattle.margin_rows.specs.Case.{Case, terms_in}
+use Rattle.margin_rows.specs.Tables.{cell, cells, Extends, HoldsRun, HoldsRuns, HoldTermRuns}
 use Rattle.margin_rows.specs.declared.runs.Runs.{Runs}
 use Rattle.margin_rows.specs.Times.{relay_time, time_at, ends}
 use Rattle.margin_rows.proofs.Places.{some_and, and_some}
@@ -148,6 +148,15 @@ term_runs_more case terms old new starts later i start d below count pushed exte
           and_some (slice_get terms k) (λ term. HoldsRun case new term.fault term.relay (get_or later k 0)) old_fact.0 old_fact.1
           (subst P (sym value) (run_grown case old new old_fact.0.fault old_fact.0.relay (get_or starts k 0) extends old_fact.2))
     ]
+
+-- the runs of the terms stay as the list grows
+pub term_runs_grown : (case : Case) (old new : List (ℕ × ℕ)) (starts : List ℕ) → Extends old new → HoldTermRuns case old starts → HoldTermRuns case new starts
+term_runs_grown case old new starts extends holds = record {
+  count = holds.count;
+  each = λ k below.
+      let found = some_and (slice_get (terms_in case) k) (λ t. HoldsRun case old t.fault t.relay (slice_index starts k)) (holds.each k below) in
+      and_some (slice_get (terms_in case) k) (λ t. HoldsRun case new t.fault t.relay (slice_index starts k)) found.0 found.1 (run_grown case old new found.0.fault found.0.relay (slice_index starts k) extends found.2);
+}
 
 -- the two runs of a row stand in the list
 abbrev pub HoldsBoth : Case → List (ℕ × ℕ) → Row → RowRuns → Type 0

@@ -2,7 +2,7 @@
 use Rattle.std.specs.Prelude.{◌≡◌, ℕ, suc, ◌<◌, ◌≤◌, ◌↔◌, List, length, map, slice_get, slice_index, IfSome, IsSomeAnd}
 use Rattle.std.proofs.Common.{set}
 use Rattle.coord_model.specs.Choice.{Settings}
-use Rattle.margin_rows.specs.Case.{Case}
+use Rattle.margin_rows.specs.Case.{Case, FitsCase}
 use Rattle.margin_rows.specs.FirstBox.{IsFirstStep}
 use Rattle.margin_rows.specs.declared.span.Span.{Span}
 use Rattle.margin_rows.specs.declared.span.Steps.{Steps}
@@ -31,6 +31,11 @@ pub record AreIn (spans : List Steps) (steps : List ℕ) : Type 0 where
   pub count : length steps ≡ length spans
   pub each : (i : ℕ) → IfSome (slice_get spans i) (λ span. IsIn span (slice_index steps i))
 
+-- no span of the box is empty
+pub record HasNoEmptySpan (box : Box) : Type 0 where
+  pub pickup : (i : ℕ) → IfSome (slice_get box.pickup i) (λ span. span.low < span.past)
+  pub dial : (i : ℕ) → IfSome (slice_get box.dial i) (λ span. span.low < span.past)
+
 -- the settings lie in the box
 pub record LiesIn (box : Box) (settings : Settings) : Type 0 where
   pub pickup : AreIn box.pickup settings.pickup
@@ -51,6 +56,12 @@ pub record FitsBox (case : Case) (box : Box) : Type 0 where
   pub dials : length box.dial ≡ length case.study.relays
   pub pickup : (i step : ℕ) → IfSome (slice_get box.pickup i) (λ span. IsIn span step → IsFirstStep case i step)
   pub dial : (i step : ℕ) → IfSome (slice_get box.dial i) (λ span. IsIn span step → IsDialStep case i step)
+
+-- the case is within the limits, and the box lies in its first box and has a step in each span
+pub record IsFilled (case : Case) (box : Box) : Type 0 where
+  pub limits : FitsCase case
+  pub fits : FitsBox case box
+  pub steps : HasNoEmptySpan box
 
 -- the box is the first: it has each pickup step that is sensible, and each dial step
 pub record IsFirstBox (case : Case) (box : Box) : Type 0 where

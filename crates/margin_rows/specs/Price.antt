@@ -1,12 +1,13 @@
 -- The cost of settings in whole weighted microseconds, from the ends of the enclosures (ours).
-use Rattle.std.specs.Prelude.{ℕ, ◌*◌, ◌/◌}
+use Rattle.std.specs.Prelude.{ℕ, ◌*◌, ◌/◌, ◌==◌, sum_by, if◌then◌else◌}
 use Rattle.std.specs.Int.{div_ceil}
 use Rattle.coord_model.specs.Choice.{Settings}
 use Rattle.coord_model.specs.Allowed.{dial_of}
 use Rattle.coord_model.specs.Cost.{weight_of, weighted_sum}
 use Rattle.coord_model.specs.declared.study.Term.{Term}
-use Rattle.margin_rows.specs.Case.{Case}
+use Rattle.margin_rows.specs.Case.{Case, terms_in}
 use Rattle.margin_rows.specs.Margin.{time_of}
+use Rattle.margin_rows.specs.Times.{time_at}
 
 -- the least weighted time of a term, in weighted picoseconds
 abbrev pub least_part : Case → Settings → Term → ℕ
@@ -35,3 +36,12 @@ cost_of case settings = div_ceil (greatest_sum case settings) 1000000
 -- the least that the settings can cost, rounded down
 unfoldable pub lower_cost_of : Case → Settings → ℕ
 lower_cost_of case settings = least_sum case settings / 1000000
+
+-- the weighted time of relay i at a pickup step and dial 1, at its lower end, where the term is its own
+abbrev pub term_part : Case → ℕ → ℕ → Term → ℕ
+term_part case i step term =
+    if term.relay == i then weight_of case.study term.fault * (time_at case term.fault i step).lower else 0
+
+-- the sum of these over the terms: what a unit of relay i's dial counts in the cost
+abbrev pub term_sum : Case → ℕ → ℕ → ℕ
+term_sum case i step = sum_by (term_part case i step) (terms_in case)

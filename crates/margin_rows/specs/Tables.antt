@@ -1,13 +1,15 @@
 -- What an instance keeps beside its study: lists worked out once.
-use Rattle.std.specs.Prelude.{◌≡◌, ℕ, ◌+◌, ◌*◌, ◌<◌, nat_le, Some, List, ◌++◌, length, map, slice_get, slice_index, IsSomeAnd, if◌then◌else◌}
+use Rattle.std.specs.Prelude.{◌≡◌, ℕ, ◌+◌, ◌*◌, ◌<◌, nat_le, Some, sum_by, List, ◌++◌, length, map, slice_get, slice_index, IsSomeAnd, if◌then◌else◌}
 use Rattle.std.specs.List.{range_with_len}
 use Rattle.coord_model.specs.Allowed.{Senses}
 use Rattle.coord_model.specs.Rows.{amps_at}
 use Rattle.margin_rows.specs.Case.{Case, rows_in, terms_in}
-use Rattle.margin_rows.specs.FirstBox.{IsFirstSpanOf}
+use Rattle.margin_rows.specs.FirstBox.{IsFirstStep, IsFirstSpanOf}
 use Rattle.coord_model.specs.StudyData.{StudyData}
 use Rattle.coord_model.specs.Time.{sensed_multiple}
 use Rattle.coord_model.specs.declared.study.Relay.{Relay}
+use Rattle.coord_model.specs.declared.study.Term.{Term}
+use Rattle.margin_rows.specs.Price.{term_part}
 use Rattle.margin_rows.specs.Times.{time_at, ends, relay_time}
 use Rattle.margin_rows.specs.declared.runs.RowRuns.{RowRuns}
 use Rattle.margin_rows.specs.declared.runs.Runs.{Runs}
@@ -52,6 +54,12 @@ pub record HoldRowRuns (case : Case) (times : List (ℕ × ℕ)) (starts : List 
   pub count : length starts ≡ length (rows_in case)
   pub each : (k : ℕ) → k < length starts → IsSomeAnd (slice_get (rows_in case) k) (λ row. IsSomeAnd (slice_get starts k) (λ runs. HoldsRun case times row.fault row.backup runs.backup × HoldsRun case times row.fault row.primary runs.primary))
 
+-- the table has for each relay and pickup step of the first box the sum of its weighted times over these terms, with 64
+-- places for each relay
+pub record HoldsSums (case : Case) (terms : List Term) (table : List ℕ) : Type 0 where
+  pub size : length table ≡ length case.study.relays * 64
+  pub each : (i step : ℕ) → IsFirstStep case i step → slice_index table (i * 64 + step) ≡ sum_by (term_part case i step) terms
+
 -- the tables are those of the case
 pub record AreTablesOf (case : Case) (tables : Tables) : Type 0 where
   pub rows : tables.rows.items ≡ rows_in case
@@ -60,3 +68,4 @@ pub record AreTablesOf (case : Case) (tables : Tables) : Type 0 where
   pub spans : (i : ℕ) → i < length case.study.relays → IsSomeAnd (slice_get tables.spans.items i) (IsFirstSpanOf case i)
   pub term_runs : HoldTermRuns case tables.times.items tables.term_runs.items
   pub row_runs : HoldRowRuns case tables.times.items tables.row_runs.items
+  pub sums : HoldsSums case (terms_in case) tables.sums.items

@@ -1,14 +1,17 @@
 //! An instance: a study and its currents, with what is worked out from them once.
-ghost use Rattle.std.specs.Prelude.{◌≡◌, ◌<◌, length, IfOk, IfErr, IfSome};
+ghost use Rattle.std.specs.Prelude.{◌≡◌, ◌<◌, ◌≤◌, ◌^◌, length, IfOk, IfErr, IfSome};
 ghost use Rattle.coord_model.specs.Limits.{FitsStudy, FitsCurrents};
 ghost use Rattle.coord_model.specs.StudyData.{study_data, entries_of};
 ghost use Rattle.margin_rows.specs.Case.{case_of, rows_in, terms_in, AtRow, AtTerm, FitsCase};
 ghost use Rattle.margin_rows.specs.FirstBox.{IsFirstStep, IsFirstSpanOf};
+ghost use Rattle.margin_rows.specs.Margin.{interval_ps};
+ghost use Rattle.margin_rows.specs.Price.{term_sum};
 ghost use Rattle.margin_rows.specs.Refusal.{HasCause};
 ghost use Rattle.margin_rows.specs.Times.{time_at, ends, IsOrdinary};
 
 use crate::fault::BuildFault;
 use crate::given::Given;
+use crate::sums::place;
 use crate::tables::{Tables, tabulate};
 use coord_model::{Currents, Row, Study, Term};
 use std::alloc::Global;
@@ -55,6 +58,15 @@ impl Instance {
         ensures fits { FitsCase self.now }
     {
         self.given.study()
+    }
+
+    /// The coordination interval, in picoseconds.
+    pub fn interval_ps(&self) -> u64
+        ensures exact { result ≡ interval_ps self.now.study }
+        ensures small { result < 2 ^ 54 }
+        ensures fits { FitsCase self.now }
+    {
+        u64::from(self.study().cti_ms) * 1_000_000_000
     }
 
     /// The rows, by fault, then by primary, then by backup.
@@ -115,5 +127,14 @@ impl Instance {
     {
         let start = self.tables.term_runs[usize::from(term)];
         self.tables.times[start + usize::from(step)]
+    }
+
+    /// The sum over a relay's terms of weight times time at the lower end, in nanoseconds at dial 1.
+    pub fn term_sum(&self, relay: u16, step: u16) -> u64
+        requires { IsFirstStep self.now relay step }
+        ensures exact { result ≡ term_sum self.now relay step }
+        ensures small { result ≤ 2 ^ 59 }
+    {
+        self.tables.sums[place(relay, step)]
     }
 }

@@ -17,7 +17,6 @@ ghost use Rattle.margin_rows.specs.Raised.{IsWaitOf, FitsWait, due, AreDialSteps
 
 use crate::dial::dial_at;
 use crate::instance::Instance;
-use crate::margin::interval_ps;
 use coord_model::{Choice, NoMemory, Relay};
 use std::alloc::Global;
 
@@ -146,7 +145,7 @@ fn due(inst: &Instance, dials: &[u16], wait: Wait) -> u64
     ensures small { result < 2 ^ 55 }
 {
     let dial = dial_at(inst, wait.primary, dials[usize::from(wait.primary)]);
-    dial * wait.primary_time + interval_ps(inst)
+    dial * wait.primary_time + inst.interval_ps()
 }
 
 /// The least dial step at which the backup does not operate before a time in picoseconds. `None`: there is none.

@@ -21,6 +21,7 @@ mod rows;
 mod runs;
 mod span;
 mod spans;
+mod sums;
 mod tables;
 mod terms;
 

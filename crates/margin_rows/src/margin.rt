@@ -2,9 +2,9 @@
 ghost use Rattle.std.specs.Prelude.{◌≡◌, ℕ, ◌*◌, ◌^◌, ◌<◌, ◌≤◌, ◌↔◌, pos, ◌≤ℤ◌, length, All, IsTrue};
 ghost use Rattle.coord_model.specs.Allowed.{IsAllowed, KeepsInterval, dial_of};
 ghost use Rattle.coord_model.specs.Choice.{choice_data};
-ghost use Rattle.margin_rows.specs.Case.{rows_in, AtRow, FitsCase};
+ghost use Rattle.margin_rows.specs.Case.{rows_in, AtRow};
 ghost use Rattle.margin_rows.specs.FirstBox.{IsInFirstBox};
-ghost use Rattle.margin_rows.specs.Margin.{interval_ps, least_ps, greatest_ps, margin, loose_margin, strict_margin, MeetsLoosely, MeetsStrictly};
+ghost use Rattle.margin_rows.specs.Margin.{least_ps, greatest_ps, margin, loose_margin, strict_margin, MeetsLoosely, MeetsStrictly};
 
 use crate::dial::dial_at;
 use crate::instance::Instance;
@@ -22,7 +22,7 @@ pub fn loose_row(inst: &Instance, choice: &Choice, row: u16) -> i64
     ensures kept { AtRow inst.now row (λ r. KeepsInterval inst.now.study inst.now.currents (choice_data choice.now) r → pos 0 ≤ℤ result) }
 {
     let times = set_times(inst, choice, row);
-    margin(times.backup.1, times.primary.0, interval_ps(inst))
+    margin(times.backup.1, times.primary.0, inst.interval_ps())
 }
 
 /// The strict margin of a row in picoseconds: the backup at its lower end, the primary at its upper end.
@@ -37,7 +37,7 @@ pub fn strict_row(inst: &Instance, choice: &Choice, row: u16) -> i64
     ensures keeps { pos 0 ≤ℤ result → AtRow inst.now row (KeepsInterval inst.now.study inst.now.currents (choice_data choice.now)) }
 {
     let times = set_times(inst, choice, row);
-    margin(times.backup.0, times.primary.1, interval_ps(inst))
+    margin(times.backup.0, times.primary.1, inst.interval_ps())
 }
 
 /// Whether a choice strictly meets every row.
@@ -105,15 +105,6 @@ pub fn dial(inst: &Instance, choice: &Choice, relay: u16) -> u64
     ensures small { result ≤ 15000 }
 {
     dial_at(inst, relay, choice.dial[usize::from(relay)])
-}
-
-/// The coordination interval, in picoseconds.
-pub fn interval_ps(inst: &Instance) -> u64
-    ensures exact { result ≡ interval_ps inst.now.study }
-    ensures small { result < 2 ^ 54 }
-    ensures fits { FitsCase inst.now }
-{
-    u64::from(inst.study().cti_ms) * 1_000_000_000
 }
 
 /// What a backup's time leaves over a primary's time and the interval, in picoseconds.

@@ -9,12 +9,14 @@ use crate::given::Given;
 use crate::rows::rows;
 use crate::runs::{RowRuns, no_runs, row_runs, term_runs};
 use crate::spans::first_spans;
+use crate::sums::term_sums;
 use crate::terms::terms;
 use coord_model::{Row, Term};
 use relay_pairs::pairs;
 use std::alloc::Global;
 
-/// The rows and terms, the first box, the operating times, and where those of each term and row begin.
+/// The rows and terms, the first box, the operating times, where those of each term and row begin, and their sums over
+/// the terms.
 #[derive(Drop)]
 pub struct Tables {
     pub rows: Vec<Row>,
@@ -23,6 +25,7 @@ pub struct Tables {
     pub times: Vec<(u64, u64)>,
     pub term_runs: Vec<usize>,
     pub row_runs: Vec<RowRuns>,
+    pub sums: Vec<u64>,
 }
 
 /// The tables of a study and its currents.
@@ -37,6 +40,14 @@ pub fn tabulate(alloc: Global, given: &Given) -> Result<Tables, BuildFault>
     let spans = first_spans(alloc, given, terms.as_slice(), rows.as_slice())?;
     let mut runs = no_runs(alloc, given)?;
     let term_runs = term_runs(alloc, given, terms.as_slice(), &mut runs)?;
+    let sums = term_sums(
+        alloc,
+        given,
+        terms.as_slice(),
+        spans.as_slice(),
+        runs.times.as_slice(),
+        term_runs.as_slice(),
+    )?;
     let row_runs = row_runs(alloc, given, rows.as_slice(), &mut runs)?;
     Ok(Tables {
         rows,
@@ -45,5 +56,6 @@ pub fn tabulate(alloc: Global, given: &Given) -> Result<Tables, BuildFault>
         times: runs.times,
         term_runs,
         row_runs,
+        sums,
     })
 }

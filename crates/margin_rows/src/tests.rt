@@ -12,6 +12,7 @@ mod boxes;
 mod gaps;
 mod least_dials;
 mod studies;
+mod sums;
 
 use studies::{one_fault, one_line, two_lines};
 

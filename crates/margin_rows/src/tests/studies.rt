@@ -290,3 +290,64 @@ fn one_line_currents(alloc: Global, amps: u32) -> Result<Currents, NoMemory>
         )?,
     })
 }
+
+/// One line with a relay of two pickups and two faults on it, of weights 2 and 3.
+pub fn two_faults(alloc: Global) -> Result<Instance, BuildFault> {
+    build(alloc, two_faults_study(alloc)?, two_faults_currents(alloc)?)
+}
+
+fn two_faults_study(alloc: Global) -> Result<Study, NoMemory>
+    ensures fits { IfOk result (λ study. FitsStudy (study_data study)) }
+    ensures faults { IfOk result (λ study. length study.faults.items ≡ 2) }
+    ensures relays { IfOk result (λ study. length study.relays.items ≡ 1) }
+{
+    let line = Line {
+        name: name(),
+        from: 0,
+        to: 1,
+    };
+    let faults = [
+        Fault {
+            name: name(),
+            line: 0,
+            weight: 2,
+        },
+        Fault {
+            name: name(),
+            line: 0,
+            weight: 3,
+        },
+    ];
+    Ok(Study {
+        cti_ms: 300,
+        sense: 110,
+        cap: 20,
+        load_percent: 120,
+        buses: Vec::from_slice(alloc, &[name(), name()])?,
+        lines: Vec::from_slice(alloc, &[line])?,
+        relays: Vec::from_slice(alloc, &[relay(0, 100, 2, 50, 1, 0)])?,
+        faults: Vec::from_slice(alloc, &faults)?,
+        exempt: Vec::new(alloc),
+    })
+}
+
+fn two_faults_currents(alloc: Global) -> Result<Currents, NoMemory>
+    ensures few { IfOk result (λ currents. length (entries_of currents) ≤ 8192) }
+    ensures each { IfOk result (λ currents. All (λ entry. (entry.fault < 2) × (entry.relay < 1) × (entry.amps ≤ 100000)) (entries_of currents)) }
+{
+    let entries = [
+        Current {
+            fault: 0,
+            relay: 0,
+            amps: 1_000,
+        },
+        Current {
+            fault: 1,
+            relay: 0,
+            amps: 800,
+        },
+    ];
+    Ok(Currents {
+        entries: Vec::from_slice(alloc, &entries)?,
+    })
+}

@@ -2,9 +2,8 @@ use Rattle.std.specs.Prelude.{slice_get, slice_index}
 use Rattle.std.specs.Option.{IfSome}
 use Rattle.std.proofs.Common.{ℕ, ◌<◌, Option, Some, None, arith}
 use Rattle.coord_model.specs.Choice.{Settings, choice_data}
-use Rattle.margin_rows.specs.Box.{Box, IsIn, LiesIn}
+use Rattle.margin_rows.specs.Box.{Box, HasNoEmptySpan, IsIn, LiesIn}
 use Rattle.margin_rows.specs.declared.span.Steps.{Steps}
-use Rattle.box_bound.specs.Weighing.{HasNoEmptySpan}
 use Rattle.box_bound.proofs.tests.has_steps.Goals as goal
 
 some : (o : Option Steps) (step : ℕ) → IfSome o (λ span. IsIn span step) → IfSome o (λ span. span.low < span.past)

@@ -7,6 +7,24 @@ use Rattle.box_range.proofs.Places.{listed}
 use Rattle.box_range.proofs.Shown.{shown_ends}
 use Rattle.box_range.proofs.ends.raise.Goals as goal
 
+pub lowest-low-requires-clause-low : goal.lowest-low-requires-clause-low
+lowest-low-requires-clause-low c =
+    let case = c.args.inst.now in
+    let there = listed case c.args.at.number c.args.at.row c.requires.place in
+    (shown_ends case c.args.ranges.now c.args.at.row Backup c.args.kind c.span-steps.result c.requires.filled there c.span-steps.ensures).low_in
+
+pub lowest-low-requires-clause-high : goal.lowest-low-requires-clause-high
+lowest-low-requires-clause-high c =
+    let case = c.args.inst.now in
+    let there = listed case c.args.at.number c.args.at.row c.requires.place in
+    (shown_ends case c.args.ranges.now c.args.at.row Backup c.args.kind c.span-steps.result c.requires.filled there c.span-steps.ensures).high_in
+
+pub lowest-low-requires-clause-ordered : goal.lowest-low-requires-clause-ordered
+lowest-low-requires-clause-ordered c =
+    let case = c.args.inst.now in
+    let there = listed case c.args.at.number c.args.at.row c.requires.place in
+    (shown_ends case c.args.ranges.now c.args.at.row Backup c.args.kind c.span-steps.result c.requires.filled there c.span-steps.ensures).ordered
+
 pub lowest-low-requires-clause-met : goal.lowest-low-requires-clause-met
 lowest-low-requires-clause-met c =
     let case = c.args.inst.now in

@@ -1,7 +1,6 @@
 use Rattle.std.proofs.Common.{sym, subst}
-use Rattle.margin_rows.specs.Box.{Box}
+use Rattle.margin_rows.specs.Box.{Box, IsFilled}
 use Rattle.box_range.specs.Drops.{none}
-use Rattle.box_range.specs.Meeting.{IsFilled}
 use Rattle.box_range.proofs.Begun.{all_due, none_flagged}
 use Rattle.box_range.proofs.Order.{drops_drops}
 use Rattle.box_range.proofs.Tight.{tight_of}

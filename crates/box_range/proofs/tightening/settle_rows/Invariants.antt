@@ -1,8 +1,8 @@
 use Rattle.std.specs.List.{Contains}
 use Rattle.coord_model.specs.declared.study.Row.{Row}
+use Rattle.margin_rows.specs.Box.{IsFilled}
 use Rattle.margin_rows.specs.Case.{rows_in}
 use Rattle.box_range.specs.Drops.{Drops}
-use Rattle.box_range.specs.Meeting.{IsFilled}
 use Rattle.box_range.specs.Rounds.{IsDueOrSettled}
 use Rattle.box_range.specs.Settled.{size}
 use Rattle.box_range.proofs.tightening.settle_rows.Given as goal

@@ -1,6 +1,6 @@
 use Rattle.box_bound.specs.DualValue.{pickups_of, dials_of, IsLeastPart}
 use Rattle.box_bound.proofs.Leasts.{IsSmall}
-use Rattle.box_bound.proofs.least.least_part.Given as goal
+use Rattle.box_bound.proofs.least.least_over.Given as goal
 
 abbrev pub invariant-loop-step : goal.invariant-loop-step
 invariant-loop-step l = record {
