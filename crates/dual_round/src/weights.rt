@@ -45,39 +45,4 @@ pub fn round(
 }
 
 #[cfg(test)]
-mod tests {
-    use super::*;
-    use coord_model::Weight;
-    use std::test::Fail;
-
-    #[test]
-    fn rounds_to_the_nearest(rt: HostRuntime) -> Result<(), Fail> {
-        let weights = round(rt.alloc(), 3 << 20, &[(0, 1 << 20), (1, -5)], 20)?;
-        assert_eq!(rt; weights.lambda, 3);
-        assert_eq!(rt;
-            weights.rows.as_slice(),
-            [Weight { row: 0, weight: 1 }].as_slice()
-        );
-        Ok(())
-    }
-
-    #[test]
-    fn rounds_halves_up_and_caps(rt: HostRuntime) -> Result<(), Fail> {
-        let rows = [(9, 5 << 40), (3, 3), (4, 1), (5, 2), (2, -40)];
-        let weights = round(rt.alloc(), -2, &rows, 2)?;
-        assert_eq!(rt; weights.lambda, 0);
-        assert_eq!(rt;
-            weights.rows.as_slice(),
-            [
-                Weight { row: 3, weight: 1 },
-                Weight { row: 5, weight: 1 },
-                Weight {
-                    row: 9,
-                    weight: 4_294_967_295
-                },
-            ]
-            .as_slice()
-        );
-        Ok(())
-    }
-}
+mod tests;

@@ -8,7 +8,6 @@ pub mod Kept
 pub mod Laws
 pub mod Listed
 pub mod Looked
-pub mod Lowered
 pub mod Multiples
 pub mod Placed
 pub mod Places

@@ -30,11 +30,10 @@ use Rattle.margin_rows.specs.declared.least.Rise.TheVariants.{Kept, Rose, Beyond
 use Rattle.margin_rows.specs.declared.least.Wait.{Wait}
 use Rattle.margin_rows.proofs.Dialled.{dial_on_step, dial_rises}
 use Rattle.margin_rows.proofs.Listed.{IsRowOf, row_facts}
-use Rattle.margin_rows.proofs.Lowered.{zeros_at}
 use Rattle.margin_rows.proofs.Placed.{of_some, found_listed, all_rows, ends_small}
 use Rattle.margin_rows.proofs.Places.{and_some}
 use Rattle.margin_rows.proofs.Timed.{at_place}
-use Rattle.margin_rows.proofs.Written.{in_list}
+use Rattle.margin_rows.proofs.Written.{in_list, zeros_at}
 
 -- the dial of a relay that is there
 dial_there : (study : StudyData) (i step : ℕ) (relay : Relay) → slice_get study.relays i ≡ Some relay → dial_at_step study i step ≡ dial_at relay step

@@ -20,11 +20,10 @@ use Rattle.margin_rows.specs.Tables.{HoldsRun, HoldsSums, HoldTermRuns}
 use Rattle.margin_rows.specs.Times.{time_at, ends, IsOrdinary}
 use Rattle.margin_rows.proofs.Listed.{IsTermOf, term_facts, term_used}
 use Rattle.margin_rows.proofs.Looked.{run_time, first_ordinary}
-use Rattle.margin_rows.proofs.Lowered.{zeros_at}
 use Rattle.margin_rows.proofs.Placed.{terms_few, weight_there}
 use Rattle.margin_rows.proofs.Places.{some_and}
 use Rattle.margin_rows.proofs.Spanned.{first_step_small}
-use Rattle.margin_rows.proofs.Written.{in_list}
+use Rattle.margin_rows.proofs.Written.{in_list, zeros_at}
 
 -- what counts where two numbers are the same, and nothing where they differ
 chosen : (k i n : ℕ) → k ≡ i → (if k == i then n else 0) ≡ n

@@ -1,7 +1,8 @@
 -- A list with another value at one place or one more at its end, and what is read at a place.
 use Rattle.std.specs.Prelude.{slice_get, IfSome, IsSomeAnd}
-use Rattle.std.proofs.Common.{◌≡◌, ◌<◌, ℕ, suc, zero, List, [], ◌∷◌, ◌++◌, length, set, get_or, Some, arith, sym, refl, ap, ◌∙◌, subst}
-use Rattle.std.proofs.lemmas.List.{set-set, set-get_or}
+use Rattle.std.proofs.Common.{◌≡◌, ◌<◌, ℕ, suc, zero, List, [], ◌∷◌, ◌++◌, length, replicate, set, get_or, Some, arith, sym, refl, ap, ◌∙◌, subst, inl, inr}
+use Rattle.std.proofs.lemmas.Bool.{cases_lt}
+use Rattle.std.proofs.lemmas.List.{set-set, set-get_or, get_or-replicate, length-replicate, get_or_past}
 use Rattle.std.proofs.lemmas.Option.{get_or_from_slice_get, slice_get-get_or}
 use Rattle.margin_rows.proofs.Places.{some_and}
 
@@ -46,3 +47,7 @@ pub in_list : {X : Type 0} (xs : List X) (i : ℕ) → i < length xs → (x : X)
 in_list [] i below = absurd (omega (arith, below))
 in_list (x ∷ xs) zero below = (x, refl)
 in_list (x ∷ xs) (suc i) below = in_list xs i (omega (arith, below))
+
+-- a list of zeros
+pub zeros_at : (n i : ℕ) → let zeros : List ℕ = replicate n 0 in get_or zeros i 0 ≡ 0
+zeros_at n i = elim (cases_lt i n) [ inl below ↦ get_or-replicate {A = ℕ} n i 0 0 below | inr past ↦ get_or_past {X = ℕ} (replicate n 0) i 0 (omega (arith, past, length-replicate {A = ℕ} n 0)) ]

@@ -1,6 +1,6 @@
 -- The first box (ours): all dial steps of each relay, and the pickup steps that sense each current that counts and
 -- clear the load.
-use Rattle.std.specs.Prelude.{◌≡◌, ℕ, ◌<◌, ◌≤◌, Option, Some, None, length, slice_get, slice_index, IfSome, IsSomeAnd}
+use Rattle.std.specs.Prelude.{ℕ, ◌<◌, ◌≤◌, Option, Some, None, length, slice_get, slice_index, IfSome, IsSomeAnd}
 use Rattle.coord_model.specs.Allowed.{AreOnSteps, IsSensible}
 use Rattle.coord_model.specs.Choice.{Settings}
 use Rattle.margin_rows.specs.Case.{Case}
@@ -20,11 +20,6 @@ pub record IsFirstSpan (case : Case) (relay low high : ℕ) : Type 0 where
   pub inside : (step : ℕ) → low ≤ step → step ≤ high → IsFirstStep case relay step
   pub no_other : (step : ℕ) → IsFirstStep case relay step → (low ≤ step) × (step ≤ high)
 
--- the step is the lowest that the first box has of the relay
-pub record IsFirstLow (case : Case) (relay low : ℕ) : Type 0 where
-  pub first : IsFirstStep case relay low
-  pub lowest : (step : ℕ) → IsFirstStep case relay step → low ≤ step
-
 -- the span is that of the relay in the first box
 abbrev pub IsFirstSpanOf : Case → ℕ → Option (ℕ × ℕ) → Type 0
 IsFirstSpanOf case relay None = HasNoStep case relay
@@ -35,17 +30,6 @@ pub record IsInFirstBox (case : Case) (settings : Settings) : Type 0 where
   pub on_steps : AreOnSteps case.study settings
   pub sensible : (i : ℕ) → IfSome (slice_get case.study.relays i) (λ relay. IsSensible case.study case.currents i relay (slice_index settings.pickup i))
 
--- the settings are the lowest of the first box: no pickup step of it lies below theirs, and their dials are the first
-pub record IsLowest (case : Case) (settings : Settings) : Type 0 where
-  pub in_first_box : IsInFirstBox case settings
-  pub pickups : (i step : ℕ) → IsFirstStep case i step → slice_index settings.pickup i ≤ step
-  pub dials : (i : ℕ) → slice_index settings.dial i ≡ 0
-
 -- the first box is empty: it has no pickup step of some relay
 abbrev pub HasEmptyFirstBox : Case → Type 0
 HasEmptyFirstBox case = (i : ℕ) × (i < length case.study.relays) × HasNoStep case i
-
--- what the lowest settings are: there are none exactly where the first box is empty
-abbrev pub IsLowestOf : Case → Option Settings → Type 0
-IsLowestOf case None = HasEmptyFirstBox case
-IsLowestOf case (Some settings) = IsLowest case settings

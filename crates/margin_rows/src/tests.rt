@@ -1,10 +1,10 @@
 //! Studies that are worked out by hand: curve B takes 13.5/(M - 1) seconds at the multiple of pickup M and dial 1.
-ghost use Rattle.std.specs.Prelude.{◌≤◌, IfSome};
+ghost use Rattle.std.specs.Prelude.{◌≤◌, IfOk, IfSome};
 ghost use Rattle.coord_model.specs.Choice.{choice_data};
 ghost use Rattle.margin_rows.specs.FirstBox.{IsInFirstBox};
 
 use crate::fault::BuildFault;
-use crate::{Instance, cost, loose_row, lower_cost, lowest_choice, strict_ok, strict_row};
+use crate::{Instance, Ranges, cost, loose_row, lower_cost, strict_ok, strict_row};
 use coord_model::{Choice, CurveName, NoMemory, Row, Term};
 use std::alloc::Global;
 
@@ -99,7 +99,7 @@ fn a_step_that_does_not_sense_is_left_out(rt: HostRuntime) -> Result<(), BuildFa
 fn a_multiple_past_the_cap_is_the_cap(rt: HostRuntime) -> Result<(), BuildFault> {
     let inst = one_line(rt.alloc(), CurveName::IecB, 100, 0, 100_000)?;
     assert!(rt; first_span(&inst) == Some((0, 1)));
-    let Some(choice) = lowest_choice(rt.alloc(), &inst)? else {
+    let Some(choice) = lowest(rt.alloc(), &inst)? else {
         return Err(BuildFault::NoMemory);
     };
     assert_eq!(rt; cost(&inst, &choice), 35_527);
@@ -112,7 +112,7 @@ fn a_multiple_past_the_cap_is_the_cap(rt: HostRuntime) -> Result<(), BuildFault>
 fn a_load_can_leave_no_step(rt: HostRuntime) -> Result<(), BuildFault> {
     let inst = one_line(rt.alloc(), CurveName::IecB, 100, 500, 1_000)?;
     assert!(rt; first_span(&inst) == None);
-    assert!(rt; lowest_choice(rt.alloc(), &inst)?.is_none());
+    assert!(rt; lowest(rt.alloc(), &inst)?.is_none());
     Ok(())
 }
 
@@ -128,7 +128,7 @@ struct Seen {
 
 /// What the calls answer at the lowest choice, with the dial of relay 0 at a step.
 fn seen_at(alloc: Global, inst: &Instance, step: u16) -> Result<Option<Seen>, NoMemory> {
-    let Some(choice) = lowest_choice(alloc, inst)? else {
+    let Some(choice) = lowest(alloc, inst)? else {
         return Ok(None);
     };
     let Some(choice) = with_dial(inst, choice, 0, step) else {
@@ -144,6 +144,19 @@ fn seen_at(alloc: Global, inst: &Instance, step: u16) -> Result<Option<Seen>, No
         cost: cost(inst, &choice),
         lower_cost: lower_cost(inst, &choice),
     }))
+}
+
+/// The choice of the lowest steps of the first box. `None`: a span of it is empty.
+fn lowest(alloc: Global, inst: &Instance) -> Result<Option<Choice>, NoMemory>
+    ensures { IfOk result (λ found. IfSome found (λ choice. IsInFirstBox inst.now (choice_data choice))) }
+{
+    let first = Ranges::first(alloc, inst)?;
+    let lowest = first.lowest()?;
+    if first.holds(&lowest) {
+        Ok(Some(lowest))
+    } else {
+        Ok(None)
+    }
 }
 
 /// A choice with the dial of a relay at a step. `None`: the relay has no such step.

@@ -4,7 +4,7 @@ ghost use Rattle.std.specs.Prelude.{IfOk, IfSome};
 
 use super::studies::one_line;
 use crate::fault::BuildFault;
-use crate::{Instance, Ranges, lowest_choice};
+use crate::{Instance, Ranges};
 use coord_model::{CurveName, NoMemory};
 
 #[test]
@@ -18,9 +18,7 @@ fn a_box_is_split_between_two_pickups(rt: HostRuntime) -> Result<(), BuildFault>
     assert!(rt; spans(&inst, &lower) == Some(((0, 0), (0, 0))));
     assert!(rt; spans(&inst, &upper) == Some(((1, 1), (0, 0))));
     assert!(rt; halves(&inst, &upper)?.is_none());
-    let Some(lowest) = lowest_choice(rt.alloc(), &inst)? else {
-        return Err(BuildFault::NoMemory);
-    };
+    let lowest = first.lowest()?;
     assert!(rt; first.holds(&lowest));
     assert!(rt; lower.holds(&lowest));
     assert!(rt; !upper.holds(&lowest));

@@ -1,7 +1,8 @@
 //! The strict-least dials of studies that are worked out by hand.
+use super::lowest;
 use super::studies::{one_fault, two_lines};
 use crate::fault::BuildFault;
-use crate::{Instance, dial_at, lowest_choice, strict_least};
+use crate::{Instance, dial_at, strict_least};
 use coord_model::NoMemory;
 use std::alloc::Global;
 
@@ -41,7 +42,7 @@ fn dial(inst: &Instance, step: u16) -> Option<u64> {
 
 /// The dial steps of the first two relays in the strict-least choice of the lowest pickups. `None`: there is none.
 fn least_dials(alloc: Global, inst: &Instance) -> Result<Option<(u16, u16)>, NoMemory> {
-    let Some(lowest) = lowest_choice(alloc, inst)? else {
+    let Some(lowest) = lowest(alloc, inst)? else {
         return Ok(None);
     };
     let Some(choice) = strict_least(alloc, inst, lowest.pickup.as_slice())? else {
