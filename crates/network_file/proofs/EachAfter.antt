@@ -3,7 +3,13 @@ use Rattle.std.proofs.Common.{◌≡◌, ℕ, ◌+◌, ◌<◌, List, [], ◌∷
 use Rattle.std.proofs.lemmas.List.{drop_more}
 use Rattle.network_file.specs.declared.fault.NetFault.{NetFault}
 use Rattle.network_file.specs.declared.fault.NetFault.TheVariants.{NotText, NotToml, At, TooMany, NoMemory}
-use Rattle.network_file.specs.Fault.{Fails, each_after}
+use Rattle.network_file.specs.Fault.{◌>>=◌, Fails, each_after}
+
+-- a reading that ends well went on from a value
+pub from_value : {A B P : Type 0} (r : Result A NetFault) (next : A → Result B NetFault) (z : B) → (r >>= next) ≡ Ok z
+    → ((x : A) → r ≡ Ok x → next x ≡ Ok z → P) → P
+from_value (Ok x) next z h then = then x refl h
+from_value (Err e) next z h then = absurd (cc)
 
 -- the next element, seen by v, and those after it
 pub seen_split : {A B : Type 0} (v : A → B) (xs : List A) (i : ℕ) (x : A) → i < length xs → x ≡ get_or xs i x
@@ -50,3 +56,14 @@ unfolding each_after
 ends read before all total none so_far =
     let one : each_after read before all ≡ Ok before = rw none refl in
     sym so_far ∙ one
+
+-- one more element that is read
+pub each_push : {A B : Type 0} (read : List B → A → Result B NetFault) (before : List B) (xs : List A) (ys : List B) (x : A) (y : B)
+    → each_after read before xs ≡ Ok ys → read ys x ≡ Ok y → each_after read before (xs ++ x ∷ []) ≡ Ok (ys ++ y ∷ [])
+unfolding each_after
+each_push read before [] ys x y so_far h =
+    let same : before ≡ ys = cc in
+    rw (same, h)
+each_push read before (z ∷ xs) ys x y so_far h =
+    from_value (read before z) (λ w. each_after read (before ++ w ∷ []) xs) ys so_far (λ w one rest.
+    rw one (each_push read (before ++ w ∷ []) xs ys x y rest h))

@@ -1,6 +1,17 @@
 pub mod Apart
+pub mod Different
+pub mod DocumentReads
 pub mod EachAfter
 pub mod FitsParts
 pub mod ItemLists
 pub mod KnownKeys
+pub mod NameText
+pub mod NumberedAgain
+pub mod Numbering
+pub mod Placed
+pub mod PlainItems
+pub mod PrintedReads
+pub mod Putting
+pub mod ReadsAgain
+pub mod ToldFits
 pub mod Utf8

@@ -24,3 +24,8 @@ study_with buses lines relays = record {
 pub record IsPairBelow (count : ℕ) (pair : Exempt) : Type 0 where
   pub backup : pair.backup < count
   pub primary : pair.primary < count
+
+-- the relay's line and its bus are below the counts
+pub record IsRelayBelow (bus_count line_count : ℕ) (relay : Relay) : Type 0 where
+  pub bus : relay.bus < bus_count
+  pub line : relay.line < line_count

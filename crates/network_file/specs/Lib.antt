@@ -3,10 +3,13 @@ pub mod Entries
 pub mod EntryLimits
 pub mod Fault
 pub mod Fits
+pub mod Named
 pub mod Names
 pub mod Network
 pub mod Numbered
+pub mod Printed
 pub mod RelayEntries
+pub mod Rules
 pub mod Study
 pub mod Tables
 pub mod Told

@@ -46,3 +46,12 @@ curve_named name =
     else if bytes_eq name (codes "ieee-vi") then Some IeeeVi
     else if bytes_eq name (codes "ieee-ei") then Some IeeeEi
     else None
+
+-- the name of a curve
+abbrev pub curve_word : CurveName → List ℕ
+curve_word IecA = codes "iec-a"
+curve_word IecB = codes "iec-b"
+curve_word IecC = codes "iec-c"
+curve_word IeeeMi = codes "ieee-mi"
+curve_word IeeeVi = codes "ieee-vi"
+curve_word IeeeEi = codes "ieee-ei"

@@ -5,12 +5,16 @@ ghost use Rattle.network_file.specs.RelayEntries.{secondary_at, relay_entry};
 ghost use Rattle.network_file.specs.EntryLimits.{StudyKeeps, LineKeeps, RelayKeeps, FaultKeeps, ExemptKeeps};
 ghost use Rattle.network_file.specs.declared.fault.NetFault.{NetFault};
 ghost use Rattle.network_file.specs.declared.fault.Place.{Place};
+ghost use Rattle.network_file.specs.Printed.{ReadsAs, IsPlain};
 ghost use Rattle.toml.specs.Data.{Members};
 ghost use Rattle.toml.specs.View.{table_view};
 
 use crate::fault::NetFault;
 use crate::fields::Fields;
+use crate::new_table::NewTable;
 use coord_model::{CurveName, Key, Name, NetKind};
+use std::alloc::{AllocError, Global};
+use toml::Table;
 
 /// A table that is read key by key.
 pub(crate) trait Entry: Copy {
@@ -23,6 +27,12 @@ pub(crate) trait Entry: Copy {
     fn read(format: u32, fields: Fields) -> Result<Self, NetFault>
         ensures exact { result ≡ entry_of format fields.entry.place (table_view fields.entry.table.now) }
         ensures keeps { IfOk result Keeps };
+
+    /// A table that reads as the entry, with each of its keys.
+    fn table(&self, alloc: Global) -> Result<Table, AllocError>
+        requires { Keeps self.now }
+        ensures reads { IfOk result (λ table. ReadsAs (entry_of 1) (table_view table) self.now) }
+        ensures plain { IfOk result (λ table. IsPlain 0 (table_view table)) };
 }
 
 /// The study, in the units of `Study`.
@@ -90,6 +100,15 @@ impl Entry for StudyEntry {
             load_percent: fields.number_or(Key::LoadPercent, 120, 100, 300)?,
         })
     }
+
+    fn table(&self, alloc: Global) -> Result<Table, AllocError> {
+        let mut table = NewTable::new(alloc);
+        table.number(Key::CtiMs, self.cti_ms)?;
+        table.number(Key::Sense, self.sense)?;
+        table.number(Key::Cap, self.cap)?;
+        table.number(Key::LoadPercent, self.load_percent)?;
+        Ok(table.done())
+    }
 }
 
 impl Entry for LineEntry {
@@ -105,6 +124,14 @@ impl Entry for LineEntry {
             from: fields.name(Key::From)?,
             to: fields.name(Key::To)?,
         })
+    }
+
+    fn table(&self, alloc: Global) -> Result<Table, AllocError> {
+        let mut table = NewTable::new(alloc);
+        table.name(Key::Name, self.name)?;
+        table.name(Key::From, self.from)?;
+        table.name(Key::To, self.to)?;
+        Ok(table.done())
     }
 }
 
@@ -146,6 +173,24 @@ impl Entry for RelayEntry {
             load_amps: fields.number_or(Key::LoadAmps, 0, 0, 100_000)?,
         })
     }
+
+    fn table(&self, alloc: Global) -> Result<Table, AllocError> {
+        let mut table = NewTable::new(alloc);
+        table.name(Key::Name, self.name)?;
+        table.name(Key::Line, self.line)?;
+        table.name(Key::Bus, self.bus)?;
+        table.curve(self.curve)?;
+        table.number(Key::CtPrimary, self.ct_primary)?;
+        table.number(Key::CtSecondary, self.ct_secondary)?;
+        table.number(Key::PlugFirst, self.plug_first)?;
+        table.number(Key::PlugStep, self.plug_step)?;
+        table.number(Key::PlugCount, self.plug_count)?;
+        table.number(Key::DialFirst, self.dial_first)?;
+        table.number(Key::DialStep, self.dial_step)?;
+        table.number(Key::DialCount, self.dial_count)?;
+        table.number(Key::LoadAmps, self.load_amps)?;
+        Ok(table.done())
+    }
 }
 
 /// The rated secondary current of a current transformer, 1 or 5 amperes.
@@ -176,6 +221,14 @@ impl Entry for FaultEntry {
             weight: fields.number_or(Key::Weight, 1, 1, 1_000)?,
         })
     }
+
+    fn table(&self, alloc: Global) -> Result<Table, AllocError> {
+        let mut table = NewTable::new(alloc);
+        table.name(Key::Name, self.name)?;
+        table.name(Key::Line, self.line)?;
+        table.number(Key::Weight, self.weight)?;
+        Ok(table.done())
+    }
 }
 
 impl Entry for ExemptEntry {
@@ -190,5 +243,12 @@ impl Entry for ExemptEntry {
             backup: fields.name(Key::Backup)?,
             primary: fields.name(Key::Primary)?,
         })
+    }
+
+    fn table(&self, alloc: Global) -> Result<Table, AllocError> {
+        let mut table = NewTable::new(alloc);
+        table.name(Key::Backup, self.backup)?;
+        table.name(Key::Primary, self.primary)?;
+        Ok(table.done())
     }
 }

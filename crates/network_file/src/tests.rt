@@ -1,5 +1,6 @@
 mod faults;
 mod limits;
+mod prints;
 
 use crate::{NetFault, read_network};
 use coord_model::{CurveName, Key, NetKind, TableName, What};

@@ -1,6 +1,6 @@
 //! The words of keys and curves.
 ghost use Rattle.std.specs.Prelude.{◌≡◌};
-ghost use Rattle.network_file.specs.Words.{word_of, curve_named};
+ghost use Rattle.network_file.specs.Words.{word_of, curve_named, curve_word};
 
 use coord_model::{CurveName, Key};
 
@@ -52,5 +52,19 @@ pub(crate) fn curve_named(name: &str) -> Option<CurveName>
         "ieee-vi" => Some(CurveName::IeeeVi),
         "ieee-ei" => Some(CurveName::IeeeEi),
         _ => None,
+    }
+}
+
+/// The name of a curve.
+pub(crate) fn curve_word(curve: CurveName) -> &'static str
+    ensures { result.now ≡ curve_word curve }
+{
+    match curve {
+        CurveName::IecA => "iec-a",
+        CurveName::IecB => "iec-b",
+        CurveName::IecC => "iec-c",
+        CurveName::IeeeMi => "ieee-mi",
+        CurveName::IeeeVi => "ieee-vi",
+        CurveName::IeeeEi => "ieee-ei",
     }
 }

@@ -1,0 +1,13 @@
+use Rattle.network_file.proofs.ReadsAgain.{fault_reads}
+use Rattle.network_file.proofs.entries.FaultEntryEntry.table.Goals as goal
+
+pub returns-clause-reads : goal.returns-clause-reads
+returns-clause-reads c =
+    rw (
+      c.done.ensures,
+      c.in_ok-number.ensures,
+      c.in_ok-name-2.ensures.put,
+      c.in_ok-name.ensures.put,
+      c.new-table.ensures,
+    )
+    (fault_reads c.args.self.now c.name.ensures.name c.name-2.ensures.name c.requires)

@@ -1,0 +1,71 @@
+-- A study with names in place of numbers, as a network file tells it (ours).
+use Rattle.std.specs.Prelude.{ℕ, List, [], map, get_or}
+use Rattle.coord_model.specs.StudyData.{StudyData}
+use Rattle.coord_model.specs.declared.name.Name.{Name}
+use Rattle.coord_model.specs.declared.study.Exempt.{Exempt}
+use Rattle.coord_model.specs.declared.study.Fault.{Fault}
+use Rattle.coord_model.specs.declared.study.Line.{Line}
+use Rattle.coord_model.specs.declared.study.Relay.{Relay}
+use Rattle.network_file.specs.declared.entries.ExemptEntry.{ExemptEntry}
+use Rattle.network_file.specs.declared.entries.FaultEntry.{FaultEntry}
+use Rattle.network_file.specs.declared.entries.LineEntry.{LineEntry}
+use Rattle.network_file.specs.declared.entries.RelayEntry.{RelayEntry}
+use Rattle.network_file.specs.Study.{line_names, relay_names}
+use Rattle.network_file.specs.Told.{ToldData}
+
+-- the name with this number
+abbrev pub named : List Name → ℕ → Name
+named names number = get_or names number []
+
+-- a line, a relay, a fault and an exempt pair with names in place of numbers
+abbrev pub line_told : List Name → Line → LineEntry
+line_told buses line = record {
+  name = line.name;
+  from = named buses line.from;
+  to = named buses line.to;
+}
+
+abbrev pub relay_told : List Name → List Name → Relay → RelayEntry
+relay_told buses line_names relay = record {
+  name = relay.name;
+  line = named line_names relay.line;
+  bus = named buses relay.bus;
+  curve = relay.curve;
+  ct_primary = relay.ct_primary;
+  ct_secondary = relay.ct_secondary;
+  plug_first = relay.plug_first;
+  plug_step = relay.plug_step;
+  plug_count = relay.plug_count;
+  dial_first = relay.dial_first;
+  dial_step = relay.dial_step;
+  dial_count = relay.dial_count;
+  load_amps = relay.load_amps;
+}
+
+abbrev pub fault_told : List Name → Fault → FaultEntry
+fault_told line_names fault = record {
+  name = fault.name;
+  line = named line_names fault.line;
+  weight = fault.weight;
+}
+
+abbrev pub pair_told : List Name → Exempt → ExemptEntry
+pair_told relay_names pair = record {
+  backup = named relay_names pair.backup;
+  primary = named relay_names pair.primary;
+}
+
+-- a study with names in place of numbers
+abbrev pub told_of : StudyData → ToldData
+told_of study = record {
+  study = record {
+    cti_ms = study.cti_ms;
+    sense = study.sense;
+    cap = study.cap;
+    load_percent = study.load_percent;
+  };
+  lines = map (line_told study.buses) study.lines;
+  relays = map (relay_told study.buses (line_names study.lines)) study.relays;
+  faults = map (fault_told (line_names study.lines)) study.faults;
+  exempt = map (pair_told (relay_names study.relays)) study.exempt;
+}
