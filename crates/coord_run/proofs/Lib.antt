@@ -1,9 +1,14 @@
 pub mod EndLaws
 pub mod EndingLaws
 pub mod MarginsLaws
+pub mod NameRules
+pub mod NameWalk
+pub mod NamesRead
 pub mod ReadingLaws
 pub mod ReportLaws
 pub mod RowLaws
 pub mod SettingsLaws
 pub mod StepLaws
 pub mod TightLaws
+pub mod WordAnswers
+pub mod WordKinds

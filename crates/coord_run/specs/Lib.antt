@@ -13,6 +13,7 @@ pub mod Refusal
 pub mod RefusalText
 pub mod Report
 pub mod Reports
+pub mod Rules
 pub mod Run
 pub mod Settings
 pub mod Settlement

@@ -1,7 +1,7 @@
 -- What a call of the program does (ours).
 use Rattle.std.specs.Prelude.{◌≡◌, ℕ, Option, Some, None, List, codes}
 use Rattle.coord_run.specs.Margins.{ReportsMargins}
-use Rattle.coord_run.specs.Outside.{Folder, Prints, Sink}
+use Rattle.coord_run.specs.Outside.{Folder, PrintsUnlessMemory, Sink}
 use Rattle.coord_run.specs.Pairs.{ListsPairs}
 use Rattle.coord_run.specs.Solve.{Solves}
 use Rattle.coord_run.specs.Words.{Command, margins, pairs, solve}
@@ -10,9 +10,9 @@ use Rattle.coord_run.specs.Words.{Command, margins, pairs, solve}
 abbrev pub usage_text : List ℕ
 usage_text = codes "usage: coord solve NETWORK CURRENTS SHEET, pairs NETWORK, margins NETWORK CURRENTS SHEET\n"
 
--- words that fit no command get the usage line and status 2, and nothing else is touched; a command does its work
+-- words that fit no command get the usage line and status 2, unless memory runs out, and no file is touched; a command does its work
 abbrev pub Does : Option Command → Folder → Folder → Sink → Sink → ℕ → Type 0
-Does None before after sink_before sink_after status = (after ≡ before) × Prints usage_text 2 sink_before sink_after status
+Does None before after sink_before sink_after status = (after ≡ before) × PrintsUnlessMemory usage_text 2 sink_before sink_after status
 Does (Some (solve names)) before after sink_before sink_after status = Solves names before after sink_before sink_after status
 Does (Some (pairs network)) before after sink_before sink_after status = ListsPairs network before after sink_before sink_after status
 Does (Some (margins names)) before after sink_before sink_after status = ReportsMargins names before after sink_before sink_after status

@@ -1,6 +1,22 @@
 -- The words that the program is called with (ours).
-use Rattle.std.specs.Prelude.{ℕ, Bool, ◌&&◌, ◌==◌, nat_lt, not, Option, Some, None, List, [], ◌∷◌, length, codes, slice_index, if◌then◌else◌}
+use Rattle.std.specs.Prelude.{ℕ, Bool, ◌&&◌, ◌==◌, nat_lt, not, Option, Some, None, option_and_then, option_map, List, [], ◌∷◌, length, codes, slice_index, if◌then◌else◌}
 use Rattle.std.specs.Str.{bytes_eq}
+
+-- the word is `--`: behind it every word is a name
+abbrev pub opens_names : List ℕ → Bool
+opens_names word = bytes_eq word (codes "--")
+
+-- the word is a name: a word of two or more bytes that begins with `-` is none
+abbrev pub is_name : List ℕ → Bool
+is_name word = not (nat_lt 1 (length word) && (slice_index word 0 == 45))
+
+-- the names that the words behind a command are, in order, if all of them are names but for the first `--`
+unfoldable pub names_of : List (List ℕ) → Option (List (List ℕ))
+names_of [] = Some []
+names_of (word ∷ words) =
+    if opens_names word then Some words
+    else if is_name word then option_map (λ names. word ∷ names) (names_of words)
+    else None
 
 -- the network, the currents table and the sheet that a command names
 pub record FileNames : Type 0 where
@@ -8,34 +24,20 @@ pub record FileNames : Type 0 where
   pub currents : List ℕ
   pub sheet : List ℕ
 
--- the word is a name: a word of two or more bytes that begins with `-` is none
-abbrev pub is_name : List ℕ → Bool
-is_name word = not (nat_lt 1 (length word) && (slice_index word 0 == 45))
+-- the name, where there is one alone
+unfoldable pub one_name : List (List ℕ) → Option (List ℕ)
+one_name (network ∷ []) = Some network
+one_name names = None
 
--- the three names are names and differ pairwise
-abbrev pub are_names : List ℕ → List ℕ → List ℕ → Bool
-are_names network currents sheet =
-    is_name network && is_name currents && is_name sheet
-    && not (bytes_eq network currents) && not (bytes_eq network sheet) && not (bytes_eq currents sheet)
+-- the names, where there are three
+unfoldable pub three_names : List (List ℕ) → Option FileNames
+three_names (network ∷ currents ∷ sheet ∷ []) = Some (record { network = network; currents = currents; sheet = sheet })
+three_names names = None
 
--- the names of `solve NETWORK CURRENTS SHEET`, if the words are that command
-unfoldable pub solve_of : List (List ℕ) → Option FileNames
-solve_of (command ∷ network ∷ currents ∷ sheet ∷ []) =
-    if bytes_eq command (codes "solve") && are_names network currents sheet
-    then Some (record { network = network; currents = currents; sheet = sheet }) else None
-solve_of words = None
-
--- the name of `pairs NETWORK`, if the words are that command
-unfoldable pub pairs_name_of : List (List ℕ) → Option (List ℕ)
-pairs_name_of (command ∷ network ∷ []) = if bytes_eq command (codes "pairs") && is_name network then Some network else None
-pairs_name_of words = None
-
--- the names of `margins NETWORK CURRENTS SHEET`, if the words are that command; they may be equal
-unfoldable pub margins_of : List (List ℕ) → Option FileNames
-margins_of (command ∷ network ∷ currents ∷ sheet ∷ []) =
-    if bytes_eq command (codes "margins") && is_name network && is_name currents && is_name sheet
-    then Some (record { network = network; currents = currents; sheet = sheet }) else None
-margins_of words = None
+-- no two of the names are equal
+abbrev pub all_differ : FileNames → Bool
+all_differ names =
+    not (bytes_eq names.network names.currents) && not (bytes_eq names.network names.sheet) && not (bytes_eq names.currents names.sheet)
 
 -- a command with the files that it names
 pub data Command : Type 0 where
@@ -43,12 +45,19 @@ pub data Command : Type 0 where
   pairs : List ℕ → Command
   margins : FileNames → Command
 
--- the command that the words are, if they are one
-abbrev pub command_from : Option FileNames → Option (List ℕ) → Option FileNames → Option Command
-command_from None None None = None
-command_from None None (Some names) = Some (margins names)
-command_from None (Some network) other = Some (pairs network)
-command_from (Some names) other another = Some (solve names)
+-- `solve` takes names of which no two are equal
+abbrev pub solve_of : FileNames → Option Command
+solve_of names = if all_differ names then Some (solve names) else None
 
+-- the command of this word with the names behind it, if it takes so many
+abbrev pub command_with : List ℕ → List (List ℕ) → Option Command
+command_with word names =
+    if bytes_eq word (codes "solve") then option_and_then solve_of (three_names names)
+    else if bytes_eq word (codes "pairs") then option_map pairs (one_name names)
+    else if bytes_eq word (codes "margins") then option_map margins (three_names names)
+    else None
+
+-- the command that the words are, if they are one
 abbrev pub command_of : List (List ℕ) → Option Command
-command_of words = command_from (solve_of words) (pairs_name_of words) (margins_of words)
+command_of [] = None
+command_of (word ∷ words) = option_and_then (command_with word) (names_of words)

@@ -6,6 +6,7 @@ mod limits;
 mod listing;
 mod margins;
 mod refusals;
+mod words;
 
 use crate::top::run;
 use coord_io::{Fail, Folder, MemFile, MemFolder, MemSink, names_differ};
@@ -154,6 +155,15 @@ fn inputs<'x>(
     )
 }
 
+/// The words as the program is given them.
+fn owned(rt: &impl AllocGlobal, words: &[&str]) -> Result<Vec<String>, AllocError> {
+    let mut owned = Vec::new(rt.alloc());
+    for word in words {
+        owned.push(String::from_str(rt.alloc(), word)?)?;
+    }
+    Ok(owned)
+}
+
 /// The program called with these words, over a sink that fails at these calls.
 fn call<F: Folder>(
     rt: &impl AllocGlobal,
@@ -161,10 +171,7 @@ fn call<F: Folder>(
     folder: &mut F,
     fails: Vec<u32>,
 ) -> Result<(u8, MemSink), AllocError> {
-    let mut owned = Vec::new(rt.alloc());
-    for word in words {
-        owned.push(String::from_str(rt.alloc(), word)?)?;
-    }
+    let owned = owned(rt, words)?;
     let mut out = MemSink::new(rt.alloc(), fails);
     let status = run(rt.alloc(), owned.as_slice(), folder, &mut out);
     Ok((status, out))

@@ -83,11 +83,8 @@ pairs 5
 }
 
 #[test]
-fn pairs_name_one_network(rt: HostRuntime) -> Result<(), test::Fail> {
+fn a_refused_network_has_no_pairs(rt: HostRuntime) -> Result<(), test::Fail> {
     let mut folder = folder_of(&rt, &[("n", "")], Vec::new(rt.alloc()))?;
-    answers(&rt, &["pairs"], &mut folder, 2, USAGE)?;
-    answers(&rt, &["pairs", "n", "m"], &mut folder, 2, USAGE)?;
-    answers(&rt, &["pairs", "-n"], &mut folder, 2, USAGE)?;
     answers(&rt, &["pairs", "m"], &mut folder, 9, "missing: m\n")?;
     answers(
         &rt,

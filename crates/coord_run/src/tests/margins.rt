@@ -256,22 +256,6 @@ fn the_inputs_are_refused_before_the_sheet(rt: HostRuntime) -> Result<(), test::
 }
 
 #[test]
-fn margins_name_three_files(rt: HostRuntime) -> Result<(), test::Fail> {
-    let mut folder = inputs(&rt, NETWORK, CURRENTS, Vec::new(rt.alloc()))?;
-    let cases: [&[&str]; 5] = [
-        &["margins"],
-        &["margins", "n", "t"],
-        &["margins", "n", "t", "s", "s"],
-        &["margins", "-n", "t", "s"],
-        &["margins", "n", "t", "--"],
-    ];
-    for words in cases {
-        answers(&rt, words, &mut folder, 2, USAGE)?;
-    }
-    Ok(())
-}
-
-#[test]
 fn a_sink_that_fails_is_told_by_the_status(rt: HostRuntime) -> Result<(), test::Fail> {
     let files = [("n", NETWORK), ("t", CURRENTS), ("s", SHEET)];
     let mut folder = folder_of(&rt, &files, Vec::new(rt.alloc()))?;

@@ -17,31 +17,6 @@ pub fn refuses(
 }
 
 #[test]
-fn words_of_no_command_get_the_usage(rt: HostRuntime) -> Result<(), test::Fail> {
-    let mut folder = inputs(&rt, NETWORK, CURRENTS, Vec::new(rt.alloc()))?;
-    let cases: [&[&str]; 10] = [
-        &[],
-        &["help"],
-        &["solve"],
-        &["solve", "n", "t"],
-        &["solve", "n", "t", "s", "c"],
-        &["check", "n", "t", "s"],
-        &["solve", "n", "n", "s"],
-        &["solve", "n", "t", "n"],
-        &["solve", "n", "s", "s"],
-        &["solve", "-n", "t", "s"],
-    ];
-    for words in cases {
-        answers(&rt, words, &mut folder, 2, USAGE)?;
-        holds(&rt, &folder, "s", OLD_SHEET);
-    }
-    // a word of one byte may be a hyphen
-    answers(&rt, &["solve", "n", "t", "-"], &mut folder, 0, REPORT)?;
-    holds(&rt, &folder, "-", SHEET);
-    Ok(())
-}
-
-#[test]
 fn a_missing_file_is_named(rt: HostRuntime) -> Result<(), test::Fail> {
     for (there, text, line) in [
         ("t", CURRENTS, "missing: n\n"),
