@@ -1,26 +1,22 @@
 -- What the code reads of a weighted row is its part.
-use Rattle.std.specs.Prelude.{slice_get, ◌==◌, if◌then◌else◌}
-use Rattle.std.proofs.Common.{◌≡◌, ℕ, ◌*◌, ◌<◌, List, length, get_or, Some, arith, refl, sym, ap, ◌∙◌}
-use Rattle.std.proofs.lemmas.Bool.Decides.{nat_tests}
+use Rattle.std.specs.Prelude.{slice_get}
+use Rattle.std.proofs.Common.{◌≡◌, ℕ, ◌*◌, ◌<◌, List, length, get_or, Some, refl, sym, ap, ◌∙◌}
 use Rattle.coord_model.specs.declared.study.Row.{Row}
 use Rattle.coord_model.specs.declared.weights.Weight.{Weight}
 use Rattle.margin_rows.specs.Case.{Case, rows_in}
 use Rattle.margin_rows.specs.Times.{time_at}
 use Rattle.margin_rows.proofs.Listed.{IsRowOf, row_facts}
 use Rattle.margin_rows.proofs.Placed.{row_read, found_listed}
+use Rattle.margin_rows.proofs.Summed.{chosen}
 use Rattle.box_bound.specs.DualValue.{row_of, primary_part, backup_part}
-
--- what counts where two numbers are the same
-chosen : (k i n : ℕ) → k ≡ i → n ≡ (if k == i then n else 0)
-chosen k i n same = grind (arith, nat_tests)
 
 pub primary_is : (case : Case) (i step : ℕ) (w : Weight) (row : Row) (b : ℕ) → row ≡ row_of case w.row → row.primary ≡ i → b ≡ (time_at case row.fault row.primary step).lower
     → w.weight * b ≡ primary_part case i step w
-primary_is case i step w row b is same time = rw (time, sym is, sym same) (chosen row.primary row.primary _ refl)
+primary_is case i step w row b is same time = rw (time, sym is, sym same) (sym (chosen row.primary row.primary _ refl))
 
 pub backup_is : (case : Case) (i step : ℕ) (w : Weight) (row : Row) (b : ℕ) → row ≡ row_of case w.row → row.backup ≡ i → b ≡ (time_at case row.fault row.backup step).upper
     → w.weight * b ≡ backup_part case i step w
-backup_is case i step w row b is same time = rw (time, sym is, sym same) (chosen row.backup row.backup _ refl)
+backup_is case i step w row b is same time = rw (time, sym is, sym same) (sym (chosen row.backup row.backup _ refl))
 
 -- the row that the code reads
 pub record IsRowHere (case : Case) (number : ℕ) (row : Row) : Type 0 where

@@ -3,10 +3,10 @@ use Rattle.std.specs.Prelude.{◌==◌, if◌then◌else◌, slice_get, ℤ, pos
 use Rattle.std.specs.List.{sum_by, All}
 use Rattle.std.proofs.Common.{◌≡◌, ◌≢◌, ℕ, zero, suc, ◌+◌, ◌*◌, ◌<◌, ◌≤◌, List, [], ◌∷◌, length, Some, arith, refl, sym, ap, ◌∙◌, inl, inr, subst}
 use Rattle.std.proofs.lemmas.Bool.{cases_eq}
-use Rattle.std.proofs.lemmas.Bool.Decides.{nat_tests}
 use Rattle.std.proofs.lemmas.Int.{ints}
 use Rattle.std.proofs.lemmas.List.Elements.{All-head, All-tail}
 use Rattle.std.proofs.lemmas.List.Sums.{sum_by-cons}
+use Rattle.margin_rows.proofs.Summed.{chosen, not_chosen}
 use Rattle.box_bound.specs.DualValue.{total}
 
 -- the sum of n values from a on
@@ -38,15 +38,9 @@ between_mixed k d t p n =
 -- what counts for one number alone
 its : (k i d v : ℕ) → k ≡ i → d * (if k == i then v else 0) ≡ d * v
 its k i d v same = ap (λ (n : ℕ). d * n) (chosen k i v same)
-  where
-    chosen : (k i n : ℕ) → k ≡ i → (if k == i then n else 0) ≡ n
-    chosen k i n same = grind (arith, nat_tests)
 
 others_none : (k i d v : ℕ) → k ≢ i → d * (if k == i then v else 0) ≡ 0
-others_none k i d v apart = ap (λ (n : ℕ). d * n) (chosen k i v apart) ∙ omega arith
-  where
-    chosen : (k i n : ℕ) → k ≢ i → (if k == i then n else 0) ≡ 0
-    chosen k i n apart = grind (arith, nat_tests)
+others_none k i d v apart = ap (λ (n : ℕ). d * n) (not_chosen k i v apart) ∙ omega arith
 
 module _ (d : ℕ → ℕ) (k : ℕ) (v : ℕ → ℕ) where
   past_none : (a n : ℕ) → k < a → between (λ i. d i * (if k == i then v i else 0)) a n ≡ 0

@@ -26,10 +26,10 @@ use Rattle.margin_rows.proofs.Spanned.{first_step_small}
 use Rattle.margin_rows.proofs.Written.{in_list, zeros_at}
 
 -- what counts where two numbers are the same, and nothing where they differ
-chosen : (k i n : ℕ) → k ≡ i → (if k == i then n else 0) ≡ n
+pub chosen : (k i n : ℕ) → k ≡ i → (if k == i then n else 0) ≡ n
 chosen k i n same = grind (arith, nat_tests)
 
-not_chosen : (k i n : ℕ) → k ≢ i → (if k == i then n else 0) ≡ 0
+pub not_chosen : (k i n : ℕ) → k ≢ i → (if k == i then n else 0) ≡ 0
 not_chosen k i n apart = grind (arith, nat_tests)
 
 -- the part of a term's own relay
@@ -98,6 +98,7 @@ pub record IsAdded (case : Case) (term : Term) (low past : ℕ) (old new : List 
   pub here : (step : ℕ) → low ≤ step → step < past → get_or new (term.relay * 64 + step) 0 ≡ get_or old (term.relay * 64 + step) 0 + term_part case term.relay step term
   pub others : (p : ℕ) → ((step : ℕ) → low ≤ step → step < past → p ≢ term.relay * 64 + step) → get_or new p 0 ≡ get_or old p 0
 
+-- one step more
 pub one_added : (case : Case) (term : Term) (low step value : ℕ) (old mid new : List ℕ) → low ≤ step → IsAdded case term low step old mid → term.relay * 64 + step < length mid
     → value ≡ get_or mid (term.relay * 64 + step) 0 + term_part case term.relay step term → new ≡ set mid (term.relay * 64 + step) value → IsAdded case term low (step + 1) old new
 one_added case term low step value old mid new above so_far within is written =
