@@ -2,7 +2,8 @@
 use Rattle.std.specs.Prelude.{slice_get, ◌&&◌, ◌==◌, nat_lt, not}
 use Rattle.std.specs.List.{Contains}
 use Rattle.std.proofs.Common.{◌≡◌, ◌≢◌, ℕ, ◌<◌, Bool, true, false, Option, Some, None, length, arith, rules, refl}
-use Rattle.coord_model.specs.Rows.{backs, looks_towards, is_exempt, amps_at}
+use Rattle.coord_model.specs.Pairs.{backs, looks_towards, is_exempt}
+use Rattle.coord_model.specs.Rows.{amps_at}
 use Rattle.coord_model.specs.StudyData.{StudyData}
 use Rattle.coord_model.specs.declared.study.Relay.{Relay}
 use Rattle.coord_model.specs.declared.study.Row.{Row}

@@ -6,6 +6,8 @@ pub mod Form
 pub mod Limits
 pub mod Name
 pub mod Order
+pub mod Pairs
+pub mod PartLimits
 pub mod Rows
 pub mod StudyData
 pub mod Time

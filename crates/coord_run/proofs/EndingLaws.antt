@@ -1,6 +1,8 @@
 -- Which ending a hairline and what is issued beside it come to.
 use Rattle.std.proofs.Common.{ℕ, ◌+◌, ◌<◌, ◌≤◌, Some, None}
-use Rattle.coord_run.specs.Ending.{IsBound, IsClosed, IsGap, IsHair, IsHairline, IsUndecided}
+use Rattle.coord_run.specs.Bounds.{IsBound, IsGap}
+use Rattle.coord_run.specs.Ending.{IsClosed}
+use Rattle.coord_run.specs.Hairlines.{IsHair, IsHairline, IsUndecided}
 use Rattle.coord_run.specs.Outcome.{HairData, IssuedData}
 use Rattle.margin_rows.specs.Case.{Case}
 

@@ -24,7 +24,10 @@ use Rattle.coord_model.specs.Time.{dial_at}
 use Rattle.coord_model.specs.declared.study.Relay.{Relay}
 use Rattle.coord_model.specs.declared.study.Row.{Row}
 use Rattle.coord_model.specs.declared.study.Term.{Term}
-use Rattle.coord_run.specs.Ending.{AreLowestTight, HasNoSettings, IsBelowAll, IsBeside, IsIssued, IsIssuedOf}
+use Rattle.coord_run.specs.Bounds.{AreLowestTight, IsBelowAll}
+use Rattle.coord_run.specs.Ending.{HasNoSettings}
+use Rattle.coord_run.specs.Hairlines.{IsBeside}
+use Rattle.coord_run.specs.Issuing.{IsIssued, IsIssuedOf}
 use Rattle.coord_run.specs.Outcome.{IssuedData}
 use Rattle.coord_run.specs.Steps.{HasManyPickups}
 use Rattle.margin_rows.specs.Box.{Box, IsFirstBox, IsIn, LiesIn}

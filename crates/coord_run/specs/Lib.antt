@@ -1,7 +1,11 @@
+pub mod Bounds
 pub mod CaseRefusal
 pub mod Cases
 pub mod Ending
+pub mod FileRefusal
+pub mod Hairlines
 pub mod Inputs
+pub mod Issuing
 pub mod Margins
 pub mod MarginsRefusal
 pub mod Names
@@ -11,6 +15,7 @@ pub mod Pairs
 pub mod Reading
 pub mod Refusal
 pub mod RefusalText
+pub mod RefusalWords
 pub mod Report
 pub mod Reports
 pub mod Rules

@@ -2,7 +2,7 @@
 use Rattle.std.specs.Prelude.{ℕ, List, ◌++◌, codes}
 use Rattle.std.specs.Fmt.{decimal}
 use Rattle.coord_run.specs.CaseRefusal.{case_status, case_text}
-use Rattle.coord_run.specs.Refusal.{file_text, unread_status, unread_text}
+use Rattle.coord_run.specs.FileRefusal.{file_text, unread_status, unread_text}
 use Rattle.coord_run.specs.Words.{FileNames}
 use Rattle.coord_run.specs.declared.refusal.MarginsRefusal.{MarginsRefusal}
 use Rattle.coord_run.specs.declared.refusal.MarginsRefusal.TheVariants.{Case, Settings}

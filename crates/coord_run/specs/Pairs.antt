@@ -2,7 +2,7 @@
 use Rattle.std.specs.Prelude.{◌≡◌, ℕ, List, ◌++◌, codes, length}
 use Rattle.std.specs.Fmt.{decimal}
 use Rattle.std.specs.List.{flat_map}
-use Rattle.coord_model.specs.Rows.{pairs_of}
+use Rattle.coord_model.specs.Pairs.{pairs_of}
 use Rattle.coord_model.specs.StudyData.{StudyData}
 use Rattle.coord_model.specs.declared.study.Pair.{Pair}
 use Rattle.coord_run.specs.Inputs.{IsNetwork}

@@ -1,41 +1,19 @@
--- A refusal's line and status (ours).
-use Rattle.std.specs.Prelude.{ℕ, List, ◌++◌, codes}
-use Rattle.std.specs.Fmt.{decimal}
-use Rattle.coord_run.specs.Inputs.{most_bytes}
+-- The line and the status of a network or a currents table that was not read (ours).
+use Rattle.std.specs.Prelude.{ℕ, List, codes}
+use Rattle.coord_run.specs.FileRefusal.{file_text, unread_text, unread_status}
 use Rattle.coord_run.specs.RefusalText.{network_text, table_text}
-use Rattle.coord_run.specs.declared.refusal.FileFault.{FileFault}
-use Rattle.coord_run.specs.declared.refusal.FileFault.TheVariants.{Missing, Failed, TooLong}
-use Rattle.coord_run.specs.declared.refusal.InputsRefusal.{InputsRefusal}
 use Rattle.coord_run.specs.declared.refusal.InputsRefusal.TheVariants.{Network, Table}
-use Rattle.coord_run.specs.declared.refusal.NetworkRefusal.{NetworkRefusal}
+use Rattle.coord_run.specs.declared.refusal.InputsRefusal.{InputsRefusal}
 use Rattle.coord_run.specs.declared.refusal.NetworkRefusal.TheVariants as network
-use Rattle.coord_run.specs.declared.refusal.TableRefusal.{TableRefusal}
+use Rattle.coord_run.specs.declared.refusal.NetworkRefusal.{NetworkRefusal}
 use Rattle.coord_run.specs.declared.refusal.TableRefusal.TheVariants as table
-use Rattle.fault_table.specs.declared.fault.TableFault.{TableFault}
+use Rattle.coord_run.specs.declared.refusal.TableRefusal.{TableRefusal}
 use Rattle.fault_table.specs.declared.fault.TableFault.TheVariants as fault
-use Rattle.network_file.specs.declared.fault.NetFault.{NetFault}
+use Rattle.fault_table.specs.declared.fault.TableFault.{TableFault}
 use Rattle.network_file.specs.declared.fault.NetFault.TheVariants as net
+use Rattle.network_file.specs.declared.fault.NetFault.{NetFault}
 
--- a line about a file or another name
-unfoldable pub file_text : List ℕ → List ℕ → List ℕ
-file_text label name = label ++ name ++ codes "\n"
-
--- the line of a file that is too long
-unfoldable pub too_long_text : List ℕ → List ℕ
-too_long_text name = codes "too long: " ++ name ++ codes " " ++ decimal most_bytes ++ codes "\n"
-
--- the line and the status of a file that was not read
-abbrev pub unread_text : List ℕ → FileFault → List ℕ
-unread_text name Missing = file_text (codes "missing: ") name
-unread_text name Failed = file_text (codes "read fault: ") name
-unread_text name TooLong = too_long_text name
-
-abbrev pub unread_status : FileFault → ℕ
-unread_status Missing = 9
-unread_status Failed = 10
-unread_status TooLong = 12
-
--- those of a network that was not read
+-- the line and the status of a network that was not read
 abbrev pub network_refusal_text : List ℕ → NetworkRefusal → List ℕ
 network_refusal_text name (network.Unread found) = unread_text name found
 network_refusal_text name (network.Faulty found) = network_text found

@@ -1,56 +1,16 @@
--- The words in which refusals are printed (ours).
-use Rattle.std.specs.Prelude.{ℕ, Option, Some, None, List, [], ◌++◌, codes}
+-- The lines of what is at fault in a network file or a currents table (ours).
+use Rattle.std.specs.Prelude.{ℕ, Option, List, [], ◌++◌, codes}
 use Rattle.std.specs.Fmt.{decimal}
 use Rattle.coord_model.specs.declared.kinds.Key.{Key}
 use Rattle.coord_model.specs.declared.kinds.NetKind.{NetKind}
-use Rattle.coord_model.specs.declared.kinds.NetKind.TheVariants.{Missing, WrongKind, OutOfRange, UnknownKey, UnknownCurve, UnknownName, DoubleName, LoopLine, NotAtLine, TwoRelaysAtEnd}
 use Rattle.coord_model.specs.declared.kinds.TableName.{TableName}
-use Rattle.coord_model.specs.declared.kinds.TableName.TheVariants as table
-use Rattle.coord_model.specs.declared.kinds.What.{What}
 use Rattle.coord_model.specs.declared.kinds.What.TheVariants as what
-use Rattle.fault_table.specs.declared.fault.TableFault.{TableFault}
+use Rattle.coord_model.specs.declared.kinds.What.{What}
+use Rattle.coord_run.specs.RefusalWords.{kind_word, table_word, what_word, key_text}
 use Rattle.fault_table.specs.declared.fault.TableFault.TheVariants as fault
-use Rattle.network_file.specs.Words.{word_of}
-use Rattle.network_file.specs.declared.fault.NetFault.{NetFault}
+use Rattle.fault_table.specs.declared.fault.TableFault.{TableFault}
 use Rattle.network_file.specs.declared.fault.NetFault.TheVariants.{NotText, NotToml, At, TooMany, NoMemory}
-
--- the kind of a network fault
-abbrev pub kind_word : NetKind → List ℕ
-kind_word Missing = codes "missing"
-kind_word WrongKind = codes "wrong-kind"
-kind_word OutOfRange = codes "out-of-range"
-kind_word UnknownKey = codes "unknown-key"
-kind_word UnknownCurve = codes "unknown-curve"
-kind_word UnknownName = codes "unknown-name"
-kind_word DoubleName = codes "double-name"
-kind_word LoopLine = codes "loop-line"
-kind_word NotAtLine = codes "not-at-line"
-kind_word TwoRelaysAtEnd = codes "two-relays-at-end"
-
--- the table of a network fault
-abbrev pub table_word : TableName → List ℕ
-table_word table.Top = codes "top"
-table_word table.Study = codes "study"
-table_word table.Line = codes "line"
-table_word table.Relay = codes "relay"
-table_word table.Fault = codes "fault"
-table_word table.Exempt = codes "exempt"
-
--- the quantity that passes its limit
-abbrev pub what_word : What → List ℕ
-what_word what.Lines = codes "lines"
-what_word what.Relays = codes "relays"
-what_word what.Faults = codes "faults"
-what_word what.Exempt = codes "exempt"
-what_word what.Buses = codes "buses"
-what_word what.PickupSteps = codes "pickup-steps"
-what_word what.Currents = codes "currents"
-what_word what.Rows = codes "rows"
-
--- a key, behind a space, if there is one
-abbrev pub key_text : Option Key → List ℕ
-key_text None = []
-key_text (Some key) = codes " " ++ word_of key
+use Rattle.network_file.specs.declared.fault.NetFault.{NetFault}
 
 -- a quantity that passes its limit
 unfoldable pub too_many_text : What → ℕ → List ℕ

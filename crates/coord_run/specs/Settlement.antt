@@ -5,7 +5,7 @@ use Rattle.coord_io.specs.Files.{Becomes, StaysOrPart}
 use Rattle.coord_io.specs.Goes.{Goes}
 use Rattle.coord_run.specs.Outcome.{OutcomeData, outcome_status}
 use Rattle.coord_run.specs.Outside.{Folder, Prints, Sink}
-use Rattle.coord_run.specs.Refusal.{file_text}
+use Rattle.coord_run.specs.FileRefusal.{file_text}
 use Rattle.coord_run.specs.Report.{report_text}
 use Rattle.coord_run.specs.Solve.{ComesTo, IsSettled, sheet_bytes_of}
 use Rattle.coord_run.specs.Words.{FileNames}

@@ -8,7 +8,7 @@ use Rattle.coord_run.specs.Ending.{IsTrueOf}
 use Rattle.coord_run.specs.Inputs.{AreInputs}
 use Rattle.coord_run.specs.Outcome.{OutcomeData, outcome_status, sheet_of}
 use Rattle.coord_run.specs.Outside.{Folder, IsReadAlone, Prints, Sink, Told}
-use Rattle.coord_run.specs.Refusal.{file_text}
+use Rattle.coord_run.specs.FileRefusal.{file_text}
 use Rattle.coord_run.specs.Report.{report_text}
 use Rattle.coord_run.specs.SolveRefusal.{solve_status, solve_text}
 use Rattle.coord_run.specs.Steps.{HasManyPickups}

@@ -2,7 +2,10 @@
 ghost use Rattle.std.specs.Prelude.{◌≡◌, ◌+◌, ◌^◌, ◌<◌, ◌≤◌, ℕ, length, All, IfOk, IfSome, IsNone};
 ghost use Rattle.std.specs.Option.{option_map};
 ghost use Rattle.coord_model.specs.Choice.{Settings, choice_data};
-ghost use Rattle.coord_run.specs.Ending.{AreLowestTight, IsFirstUnmet, IsGap, IsIssuedOf, IsTrueOf, IsUndecided};
+ghost use Rattle.coord_run.specs.Bounds.{AreLowestTight, IsGap};
+ghost use Rattle.coord_run.specs.Hairlines.{IsFirstUnmet, IsUndecided};
+ghost use Rattle.coord_run.specs.Issuing.{IsIssuedOf};
+ghost use Rattle.coord_run.specs.Ending.{IsTrueOf};
 ghost use Rattle.coord_run.specs.Outcome.{hair_data, issued_data, outcome_data, sheet_of};
 ghost use Rattle.coord_run.specs.Steps.{HasManyPickups};
 ghost use Rattle.margin_rows.specs.Case.{rows_in};

@@ -1,7 +1,8 @@
 //! The lines of the faults of the two files, and their words.
 ghost use Rattle.std.specs.Prelude.{◌≡◌, ◌++◌, IfOk, OnOk};
 ghost use Rattle.std.specs.Fmt.{decimal};
-ghost use Rattle.coord_run.specs.RefusalText.{key_text, kind_word, network_text, place_text, record_text, table_text, table_word, too_many_text, what_word};
+ghost use Rattle.coord_run.specs.RefusalWords.{key_text, kind_word, table_word, what_word};
+ghost use Rattle.coord_run.specs.RefusalText.{network_text, place_text, record_text, table_text, too_many_text};
 
 use coord_model::{Key, NetKind, NoMemory, TableName, What};
 use coord_text::push_number;

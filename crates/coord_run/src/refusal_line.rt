@@ -2,7 +2,8 @@
 ghost use Rattle.std.specs.Prelude.{◌≡◌, ◌++◌, IfOk};
 ghost use Rattle.std.specs.Fmt.{decimal};
 ghost use Rattle.coord_run.specs.CaseRefusal.{case_status, case_text};
-ghost use Rattle.coord_run.specs.Refusal.{file_text, inputs_status, inputs_text, network_fault_status, network_refusal_text, network_status, table_fault_status, table_refusal_text, table_status, too_long_text, unread_status, unread_text};
+ghost use Rattle.coord_run.specs.FileRefusal.{file_text, too_long_text, unread_status, unread_text};
+ghost use Rattle.coord_run.specs.Refusal.{inputs_status, inputs_text, network_fault_status, network_refusal_text, network_status, table_fault_status, table_refusal_text, table_status};
 
 use crate::fault_line::{network_line, table_line, too_many_line};
 use crate::inputs::MOST_BYTES;
@@ -155,7 +156,7 @@ fn inputs_status(refusal: &InputsRefusal) -> u8
     }
 }
 
-#[tactic(auto, unfolding(crate::specs::Refusal::file_text))]
+#[tactic(auto, unfolding(crate::specs::FileRefusal::file_text))]
 pub fn file_line(alloc: Global, label: &[u8], name: &[u8]) -> Result<Vec<u8>, NoMemory>
     ensures { IfOk result (λ line. line.items ≡ file_text label.now name.now) }
 {
@@ -165,7 +166,7 @@ pub fn file_line(alloc: Global, label: &[u8], name: &[u8]) -> Result<Vec<u8>, No
     Ok(line)
 }
 
-#[tactic(auto, unfolding(crate::specs::Refusal::too_long_text))]
+#[tactic(auto, unfolding(crate::specs::FileRefusal::too_long_text))]
 fn too_long_line(alloc: Global, name: &[u8]) -> Result<Vec<u8>, NoMemory>
     ensures { IfOk result (λ line. line.items ≡ too_long_text name.now) }
 {

@@ -5,7 +5,7 @@ use Rattle.std.proofs.Common.{◌≡◌, ℕ, ◌-◌, ◌*◌, ◌<◌, ◌≤�
 use Rattle.std.proofs.Math.Nat.{mul-le-mul_right}
 use Rattle.coord_model.specs.Allowed.{AreOnSteps, IsOnSteps}
 use Rattle.coord_model.specs.Choice.{Settings}
-use Rattle.coord_model.specs.Limits.{FitsRelay}
+use Rattle.coord_model.specs.PartLimits.{FitsRelay}
 use Rattle.coord_model.specs.StudyData.{StudyData}
 use Rattle.coord_model.specs.Time.{dial_at}
 use Rattle.coord_model.specs.declared.study.Relay.{Relay}

@@ -3,7 +3,8 @@ use Rattle.std.proofs.Common.{◌≡◌, ℕ, ◌<◌, true, List, length, inl, 
 use Rattle.std.proofs.lemmas.List.Elements.{Contains-get_or}
 use Rattle.std.specs.List.{Contains, filter}
 use Rattle.coord_model.specs.Allowed.{IsUsed}
-use Rattle.coord_model.specs.Rows.{is_primary, waits, terms_at, rows_at, rows_behind, relay_numbers, fault_numbers}
+use Rattle.coord_model.specs.Rows.{is_primary, waits, terms_at, rows_at, rows_behind, fault_numbers}
+use Rattle.coord_model.specs.Pairs.{relay_numbers}
 use Rattle.coord_model.specs.declared.study.Row.{Row}
 use Rattle.coord_model.specs.declared.study.Term.{Term}
 use Rattle.margin_rows.specs.Case.{Case, rows_in, terms_in}

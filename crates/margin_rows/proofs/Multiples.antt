@@ -5,7 +5,8 @@ use Rattle.std.proofs.lemmas.Bool.{leb-false, lt-leb}
 use Rattle.std.proofs.lemmas.Nat.{mul-le}
 use Rattle.coord_model.specs.Allowed.{Senses}
 use Rattle.coord_model.specs.Enclosure.{IsEnclosable}
-use Rattle.coord_model.specs.Limits.{FitsStudy, FitsRelay}
+use Rattle.coord_model.specs.Limits.{FitsStudy}
+use Rattle.coord_model.specs.PartLimits.{FitsRelay}
 use Rattle.coord_model.specs.StudyData.{StudyData}
 use Rattle.coord_model.specs.Time.{Multiple, plug_at, sensed_multiple, capped}
 use Rattle.coord_model.specs.declared.study.Relay.{Relay}

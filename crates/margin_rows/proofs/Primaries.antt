@@ -9,8 +9,10 @@ use Rattle.std.proofs.lemmas.List.Elements.{filter_passes}
 use Rattle.std.proofs.lemmas.List.FromFn.{get_or-range_with_len, length-range_with_len}
 use Rattle.std.proofs.lemmas.List.Kept.{AllPairs-filter}
 use Rattle.std.proofs.lemmas.Option.{get_or_from_slice_get, slice_get_within}
-use Rattle.coord_model.specs.Limits.{FitsRelay, FitsStudy, StandTogether}
-use Rattle.coord_model.specs.Rows.{ends_at, is_primary, relay_numbers, stands_on, terms_at}
+use Rattle.coord_model.specs.PartLimits.{FitsRelay}
+use Rattle.coord_model.specs.Limits.{FitsStudy, StandTogether}
+use Rattle.coord_model.specs.Pairs.{ends_at, relay_numbers}
+use Rattle.coord_model.specs.Rows.{is_primary, stands_on, terms_at}
 use Rattle.coord_model.specs.declared.study.Fault.{Fault}
 use Rattle.coord_model.specs.declared.study.Line.{Line}
 use Rattle.coord_model.specs.declared.study.Relay.{Relay}

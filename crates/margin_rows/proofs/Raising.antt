@@ -12,7 +12,7 @@ use Rattle.std.specs.Option.{IfSome, IsSomeAnd}
 use Rattle.coord_model.proofs.Quotients.{ceil_covers, ceil_least}
 use Rattle.coord_model.specs.Allowed.{IsOnSteps, IsSensible}
 use Rattle.coord_model.specs.Choice.{Settings}
-use Rattle.coord_model.specs.Limits.{FitsRelay}
+use Rattle.coord_model.specs.PartLimits.{FitsRelay}
 use Rattle.coord_model.specs.StudyData.{StudyData}
 use Rattle.coord_model.specs.Time.{dial_at}
 use Rattle.coord_model.specs.declared.study.Relay.{Relay}

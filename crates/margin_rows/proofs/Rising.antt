@@ -5,7 +5,7 @@ use Rattle.std.proofs.Math.Nat.{mul-le-mul_left, mul-le-mul_right, mul-lt-mul_of
 use Rattle.std.proofs.lemmas.Bool.{leb-true, leb-false}
 use Rattle.coord_model.specs.Allowed.{Senses}
 use Rattle.coord_model.specs.Enclosure.{IsAtMost, IsNotAbove}
-use Rattle.coord_model.specs.Limits.{FitsRelay}
+use Rattle.coord_model.specs.PartLimits.{FitsRelay}
 use Rattle.coord_model.specs.Rows.{amps_at}
 use Rattle.coord_model.specs.Time.{Multiple, sensed_multiple, capped}
 use Rattle.coord_model.specs.declared.study.Relay.{Relay}

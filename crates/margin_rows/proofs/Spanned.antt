@@ -5,7 +5,7 @@ use Rattle.std.proofs.lemmas.Bool.{cases_lt}
 use Rattle.std.proofs.lemmas.List.{length-set}
 use Rattle.coord_model.specs.Allowed.{IsSensible}
 use Rattle.coord_model.specs.Choice.{Settings}
-use Rattle.coord_model.specs.Limits.{FitsRelay}
+use Rattle.coord_model.specs.PartLimits.{FitsRelay}
 use Rattle.margin_rows.specs.Box.{Box, IsIn, AreIn, LiesIn, FitsBox, IsFirstBox, IsDialStep, with_pickup, with_dial}
 use Rattle.margin_rows.specs.Case.{Case, FitsCase}
 use Rattle.margin_rows.specs.FirstBox.{IsFirstStep}

@@ -7,7 +7,8 @@ use Rattle.std.specs.List.{All}
 use Rattle.coord_model.specs.Allowed.{Senses}
 use Rattle.coord_model.specs.Enclosure.{IsEnclosable}
 use Rattle.coord_model.specs.Form.{form_of}
-use Rattle.coord_model.specs.Limits.{FitsStudy, FitsCurrents, FitsRelay, FitsCurrent}
+use Rattle.coord_model.specs.Limits.{FitsStudy, FitsCurrents, FitsCurrent}
+use Rattle.coord_model.specs.PartLimits.{FitsRelay}
 use Rattle.coord_model.specs.Rows.{amps_at}
 use Rattle.coord_model.specs.StudyData.{StudyData}
 use Rattle.coord_model.specs.Time.{sensed_multiple, capped, IsUnder, IsOver}

@@ -4,7 +4,8 @@ use Rattle.std.proofs.Common.{◌≡◌, ℕ, ◌+◌, ◌<◌, ◌≤◌, Bool,
 use Rattle.std.specs.List.{filter, flat_map, range_with_len, Contains}
 use Rattle.std.proofs.lemmas.List.{map-append, take_more, append-nil, append_assoc, length-append, take_all}
 use Rattle.std.proofs.lemmas.List.Elements.{filter-append, Contains-get_or}
-use Rattle.coord_model.specs.Rows.{amps_at, is_primary, waits, backs, rows_at, rows_behind, pairs_of, pairs_behind, relay_numbers}
+use Rattle.coord_model.specs.Rows.{amps_at, is_primary, waits, rows_at, rows_behind}
+use Rattle.coord_model.specs.Pairs.{backs, pairs_of, pairs_behind, relay_numbers}
 use Rattle.coord_model.specs.StudyData.{StudyData}
 use Rattle.coord_model.specs.declared.study.Pair.{Pair}
 use Rattle.coord_model.specs.declared.study.Row.{Row}

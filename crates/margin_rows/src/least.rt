@@ -5,7 +5,7 @@
 ghost use Rattle.std.specs.Prelude.{◌≡◌, ℕ, ◌*◌, ◌^◌, ◌<◌, ◌≤◌, length, All, IfOk, IfSome, IsSomeAnd, IsTrue, IsFalse};
 ghost use Rattle.std.specs.Option.{option_map};
 ghost use Rattle.coord_model.specs.Choice.{Settings, choice_data};
-ghost use Rattle.coord_model.specs.Limits.{FitsRelay};
+ghost use Rattle.coord_model.specs.PartLimits.{FitsRelay};
 ghost use Rattle.coord_model.specs.Time.{dial_at};
 ghost use Rattle.margin_rows.specs.Box.{IsDialStep};
 ghost use Rattle.margin_rows.specs.Case.{rows_in, AtRow, FitsCase};

@@ -1,6 +1,7 @@
 //! The rows: where a backup has to wait for a primary.
 ghost use Rattle.std.specs.Prelude.{◌≡◌, ◌<◌, ◌≤◌, ◌++◌, length, All, IfOk, IfErr, OnOk};
-ghost use Rattle.coord_model.specs.Rows.{pairs_of, rows_at};
+ghost use Rattle.coord_model.specs.Pairs.{pairs_of};
+ghost use Rattle.coord_model.specs.Rows.{rows_at};
 ghost use Rattle.margin_rows.specs.Case.{rows_in};
 ghost use Rattle.margin_rows.specs.Refusal.{HasCause};
 ghost use Rattle.margin_rows.specs.Waiting.{waits_at};

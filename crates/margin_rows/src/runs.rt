@@ -1,7 +1,8 @@
 //! The operating times that count: a run for each fault and relay of a term or row, by pickup step.
 ghost use Rattle.std.specs.Prelude.{◌≡◌, ◌<◌, ◌≤◌, ◌++◌, length, Contains, IfOk, OnOk};
 ghost use Rattle.coord_model.specs.Allowed.{Senses};
-ghost use Rattle.coord_model.specs.Limits.{FitsStudy, FitsRelay};
+ghost use Rattle.coord_model.specs.Limits.{FitsStudy};
+ghost use Rattle.coord_model.specs.PartLimits.{FitsRelay};
 ghost use Rattle.coord_model.specs.StudyData.{study_data};
 ghost use Rattle.margin_rows.specs.Case.{rows_in, terms_in};
 ghost use Rattle.margin_rows.specs.Tables.{cell, cells, Extends, HoldsRun, HoldsRuns, HoldTermRuns, HoldRowRuns};

@@ -1,7 +1,8 @@
 //! The pickup steps of the first box: those that sense each current that counts, and clear the load.
 ghost use Rattle.std.specs.Prelude.{◌≡◌, ℕ, ◌<◌, ◌≤◌, ◌↔◌, length, All, Contains, IfOk, IsTrue, IsSomeAnd, slice_get};
 ghost use Rattle.coord_model.specs.Allowed.{Senses, ClearsLoad, IsUsed};
-ghost use Rattle.coord_model.specs.Limits.{FitsStudy, FitsRelay};
+ghost use Rattle.coord_model.specs.Limits.{FitsStudy};
+ghost use Rattle.coord_model.specs.PartLimits.{FitsRelay};
 ghost use Rattle.coord_model.specs.StudyData.{study_data};
 ghost use Rattle.coord_model.specs.Time.{plug_at};
 ghost use Rattle.margin_rows.specs.Case.{rows_in, terms_in};

@@ -3,7 +3,7 @@ use Rattle.std.specs.Prelude.{◌==◌, nat_le}
 use Rattle.std.proofs.Common.{◌≡◌, ℕ, ◌≤◌, List, pos, true, false, map, length, Some, Result, Ok, refl, ◌∙◌, arith}
 use Rattle.std.proofs.lemmas.Bool.Decides.{nat_tests}
 use Rattle.std.proofs.lemmas.List.{length-map}
-use Rattle.coord_model.specs.Limits.{IsBetween}
+use Rattle.coord_model.specs.PartLimits.{IsBetween}
 use Rattle.coord_model.specs.declared.kinds.Key.TheVariants as key
 use Rattle.coord_model.specs.declared.kinds.TableName.TheVariants as tables
 use Rattle.network_file.specs.Elements.{study_place, entries_of, lines_at, relays_at, faults_at, exempt_at}

@@ -1,7 +1,7 @@
 -- The limits of a study's parts speak of its buses, lines and relays alone.
 use Rattle.std.proofs.Common.{[], length, All}
 use Rattle.std.proofs.lemmas.List.Elements.{All-weaker}
-use Rattle.coord_model.specs.Limits.{FitsLine, FitsRelay, FitsFault, FitsExempt}
+use Rattle.coord_model.specs.PartLimits.{FitsLine, FitsRelay, FitsFault, FitsExempt}
 use Rattle.coord_model.specs.StudyData.{StudyData}
 use Rattle.coord_model.specs.declared.study.Exempt.{Exempt}
 use Rattle.coord_model.specs.declared.study.Fault.{Fault}

@@ -7,7 +7,8 @@ use Rattle.std.proofs.lemmas.Bool.{cases_Bool}
 use Rattle.std.proofs.lemmas.Bool.Decides.{nat_tests}
 use Rattle.std.proofs.lemmas.List.{append-nil, get_or_append_left, get_or_at, length-append, map-append, length-map}
 use Rattle.std.proofs.lemmas.List.Folds.{list_any_none}
-use Rattle.coord_model.specs.Limits.{FitsLine, FitsRelay, FitsFault, FitsExempt, FitsStudy, StandTogether}
+use Rattle.coord_model.specs.PartLimits.{FitsLine, FitsRelay, FitsFault, FitsExempt}
+use Rattle.coord_model.specs.Limits.{FitsStudy, StandTogether}
 use Rattle.coord_model.specs.StudyData.{StudyData}
 use Rattle.coord_model.specs.declared.kinds.What.{What}
 use Rattle.coord_model.specs.declared.kinds.What.TheVariants.{Buses, PickupSteps}

@@ -8,7 +8,7 @@ use Rattle.std.proofs.lemmas.Bool.{cases_Bool}
 use Rattle.std.proofs.lemmas.List.{append-nil, map_push}
 use Rattle.std.proofs.lemmas.List.Quantifiers.{position-Some}
 use Rattle.std.proofs.lemmas.Map.Keys.{IsDistinct-push}
-use Rattle.coord_model.specs.Rows.{ends_at}
+use Rattle.coord_model.specs.Pairs.{ends_at}
 use Rattle.coord_model.specs.StudyData.{StudyData, study_data}
 use Rattle.coord_model.specs.declared.kinds.Key.TheVariants as key
 use Rattle.coord_model.specs.declared.kinds.NetKind.TheVariants.{DoubleName, LoopLine, UnknownName, NotAtLine, TwoRelaysAtEnd, OutOfRange}

@@ -4,8 +4,9 @@ use Rattle.std.proofs.Common.{ℕ, ◌<◌, length, All, Some, inl, inr, arith}
 use Rattle.std.proofs.lemmas.Bool.Decides.{nat_tests}
 use Rattle.std.proofs.lemmas.List.Elements.{All-weaker}
 use Rattle.std.proofs.lemmas.Option.{slice_get_cases}
-use Rattle.coord_model.specs.Limits.{FitsLine, FitsRelay, FitsStudy}
-use Rattle.coord_model.specs.Rows.{ends_at}
+use Rattle.coord_model.specs.PartLimits.{FitsLine, FitsRelay}
+use Rattle.coord_model.specs.Limits.{FitsStudy}
+use Rattle.coord_model.specs.Pairs.{ends_at}
 use Rattle.coord_model.specs.StudyData.{StudyData}
 use Rattle.coord_model.specs.declared.study.Line.{Line}
 use Rattle.coord_model.specs.declared.study.Relay.{Relay}

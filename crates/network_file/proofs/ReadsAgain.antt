@@ -2,7 +2,7 @@
 use Rattle.std.specs.Prelude.{◌&&◌, ◌||◌, ◌==◌, nat_le}
 use Rattle.std.proofs.Common.{◌≡◌, ◌⊎◌, ℕ, pos, true, Some, Ok, refl, inl, inr, arith}
 use Rattle.std.proofs.lemmas.Bool.Decides.{nat_tests}
-use Rattle.coord_model.specs.Limits.{IsBetween}
+use Rattle.coord_model.specs.PartLimits.{IsBetween}
 use Rattle.coord_model.specs.Name.{IsName}
 use Rattle.coord_model.specs.declared.curve.CurveName.{CurveName}
 use Rattle.coord_model.specs.declared.curve.CurveName.TheVariants.{IecA, IecB, IecC, IeeeMi, IeeeVi, IeeeEi}

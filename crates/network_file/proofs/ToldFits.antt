@@ -2,7 +2,8 @@
 use Rattle.std.proofs.Common.{arith}
 use Rattle.std.proofs.lemmas.List.{length-map}
 use Rattle.std.proofs.lemmas.List.Elements.{All-map, All-weaker}
-use Rattle.coord_model.specs.Limits.{FitsRelay, FitsFault, FitsStudy}
+use Rattle.coord_model.specs.PartLimits.{FitsRelay, FitsFault}
+use Rattle.coord_model.specs.Limits.{FitsStudy}
 use Rattle.coord_model.specs.StudyData.{StudyData}
 use Rattle.coord_model.specs.declared.study.Fault.{Fault}
 use Rattle.coord_model.specs.declared.study.Relay.{Relay}

@@ -1,6 +1,6 @@
 -- The limits that an entry's own numbers keep (ours).
 use Rattle.std.specs.Prelude.{◌≡◌, ◌⊎◌}
-use Rattle.coord_model.specs.Limits.{IsBetween}
+use Rattle.coord_model.specs.PartLimits.{IsBetween}
 use Rattle.network_file.specs.declared.entries.ExemptEntry.{ExemptEntry}
 use Rattle.network_file.specs.declared.entries.FaultEntry.{FaultEntry}
 use Rattle.network_file.specs.declared.entries.LineEntry.{LineEntry}

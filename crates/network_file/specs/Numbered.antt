@@ -2,7 +2,7 @@
 use Rattle.std.specs.Prelude.{ℕ, ◌-◌, ◌+◌, ◌*◌, Bool, not, ◌&&◌, ◌==◌, nat_le, List, slice_get, Result, Ok}
 use Rattle.std.specs.List.{list_any}
 use Rattle.std.specs.Str.{bytes_eq}
-use Rattle.coord_model.specs.Rows.{ends_at}
+use Rattle.coord_model.specs.Pairs.{ends_at}
 use Rattle.coord_model.specs.declared.kinds.Key.TheVariants as key
 use Rattle.coord_model.specs.declared.kinds.NetKind.TheVariants.{LoopLine, UnknownName, NotAtLine, TwoRelaysAtEnd, OutOfRange}
 use Rattle.coord_model.specs.declared.name.Name.{Name}

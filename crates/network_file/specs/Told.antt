@@ -10,7 +10,7 @@ use Rattle.network_file.specs.declared.entries.RelayEntry.{RelayEntry}
 use Rattle.network_file.specs.declared.entries.StudyEntry.{StudyEntry}
 use Rattle.network_file.specs.declared.fault.NetFault.{NetFault}
 use Rattle.network_file.specs.declared.told.Told.{Told}
-use Rattle.coord_model.specs.Limits.{IsBetween}
+use Rattle.coord_model.specs.PartLimits.{IsBetween}
 use Rattle.network_file.specs.EntryLimits.{StudyKeeps, RelayKeeps, FaultKeeps}
 use Rattle.network_file.specs.Entries.{study_entry}
 use Rattle.network_file.specs.Fault.{◌>>=◌, fault_at}

@@ -2,7 +2,7 @@
 ghost use Rattle.std.specs.Prelude.{◌≡◌, option_map, string_bytes, IfOk};
 ghost use Rattle.std.specs.List.{list_all};
 ghost use Rattle.std.specs.Map.{keys_of};
-ghost use Rattle.coord_model.specs.Limits.{IsBetween};
+ghost use Rattle.coord_model.specs.PartLimits.{IsBetween};
 ghost use Rattle.network_file.specs.Tables.{only, is_word_of};
 ghost use Rattle.network_file.specs.Values.{name_of, number_of, curve_of, name_at, number_at, number_or, curve_at};
 ghost use Rattle.network_file.specs.Words.{word_of};

@@ -1,6 +1,7 @@
 //! A study as it is told, with names in place of numbers.
 ghost use Rattle.std.specs.Prelude.{◌≡◌, ◌<◌, map, length, [], All, IfOk};
-ghost use Rattle.coord_model.specs.Limits.{FitsStudy, FitsLine, FitsFault};
+ghost use Rattle.coord_model.specs.Limits.{FitsStudy};
+ghost use Rattle.coord_model.specs.PartLimits.{FitsLine, FitsFault};
 ghost use Rattle.coord_model.specs.StudyData.{study_data};
 ghost use Rattle.network_file.specs.Fits.{study_with, IsPairBelow, IsRelayBelow};
 ghost use Rattle.network_file.specs.Named.{named, line_told, relay_told, fault_told, pair_told, told_of};

@@ -1,7 +1,7 @@
 //! The names of an entry as numbers, by the rules that tie the tables together.
 ghost use Rattle.std.specs.Prelude.{◌≡◌, ◌+◌, ◌-◌, ◌*◌, ◌^◌, ◌<◌, ◌≤◌, [], ◌∷◌, ◌++◌, length, slice_get, false, IfOk};
-ghost use Rattle.coord_model.specs.Limits.{FitsLine, FitsRelay, FitsFault};
-ghost use Rattle.coord_model.specs.Rows.{ends_at};
+ghost use Rattle.coord_model.specs.PartLimits.{FitsLine, FitsRelay, FitsFault};
+ghost use Rattle.coord_model.specs.Pairs.{ends_at};
 ghost use Rattle.network_file.specs.EntryLimits.{RelayKeeps, FaultKeeps};
 ghost use Rattle.network_file.specs.Fault.{Gives};
 ghost use Rattle.network_file.specs.Fits.{study_with, IsPairBelow};

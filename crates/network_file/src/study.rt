@@ -1,7 +1,8 @@
 //! What a network file tells as a study: lines, relays, faults and exempt pairs in order, by their numbers.
 ghost use Rattle.std.specs.Prelude.{◌≡◌, ◌*◌, ◌<◌, ◌≤◌, [], ◌∷◌, length, sum_by, vec_len, All, IfOk};
 ghost use Rattle.std.specs.List.{AllPairs};
-ghost use Rattle.coord_model.specs.Limits.{FitsLine, FitsRelay, FitsFault, FitsStudy, StandTogether};
+ghost use Rattle.coord_model.specs.PartLimits.{FitsLine, FitsRelay, FitsFault};
+ghost use Rattle.coord_model.specs.Limits.{FitsStudy, StandTogether};
 ghost use Rattle.coord_model.specs.StudyData.{study_data};
 ghost use Rattle.network_file.specs.EntryLimits.{RelayKeeps, FaultKeeps};
 ghost use Rattle.network_file.specs.Fault.{Gives, each_after};

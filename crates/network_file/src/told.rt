@@ -1,6 +1,6 @@
 //! A network file as it is told: its tables in order, each read whole.
 ghost use Rattle.std.specs.Prelude.{◌≡◌, ◌+◌, ◌-◌, ◌^◌, ◌<◌, ◌≤◌, length, map, vec_len, All, IfOk, OnOk};
-ghost use Rattle.coord_model.specs.Limits.{IsBetween};
+ghost use Rattle.coord_model.specs.PartLimits.{IsBetween};
 ghost use Rattle.network_file.specs.EntryLimits.{StudyKeeps, RelayKeeps, FaultKeeps};
 ghost use Rattle.network_file.specs.Fault.{Gives, Reads};
 ghost use Rattle.network_file.specs.Tables.{within, elements_at, some_elements_at};

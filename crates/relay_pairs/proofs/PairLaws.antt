@@ -6,7 +6,7 @@ use Rattle.std.proofs.lemmas.List.Elements.{All-append, All-map, All-contains, C
 use Rattle.std.proofs.lemmas.List.FromFn.{length-range_with_len, get_or-range_with_len}
 use Rattle.std.proofs.lemmas.List.Kept.{AllPairs-cons, AllPairs-filter}
 use Rattle.std.proofs.lemmas.Option.{slice_get_within}
-use Rattle.coord_model.specs.Rows.{backs, looks_towards, pairs_behind, pairs_of, relay_numbers}
+use Rattle.coord_model.specs.Pairs.{backs, looks_towards, pairs_behind, pairs_of, relay_numbers}
 use Rattle.coord_model.specs.StudyData.{StudyData}
 use Rattle.coord_model.specs.declared.study.Pair.{Pair}
 use Rattle.coord_model.specs.declared.study.Relay.{Relay}

@@ -2,7 +2,7 @@
 ghost use Rattle.std.specs.Prelude.{◌≡◌, ◌≢◌, ◌<◌, ◌≤◌, ◌↔◌, ◌++◌, length, Contains, IfOk, OnOk, IsTrue};
 ghost use Rattle.std.specs.List.{AllPairs};
 ghost use Rattle.coord_model.specs.Limits.{FitsStudy};
-ghost use Rattle.coord_model.specs.Rows.{backs, is_exempt, ends_at, looks_towards, pairs_behind, pairs_of};
+ghost use Rattle.coord_model.specs.Pairs.{backs, is_exempt, ends_at, looks_towards, pairs_behind, pairs_of};
 ghost use Rattle.coord_model.specs.StudyData.{study_data};
 ghost use Rattle.coord_model.specs.declared.study.Pair.{Pair};
 ghost use Rattle.relay_pairs.specs.Order.{ComesBefore};

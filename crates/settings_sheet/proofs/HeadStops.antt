@@ -5,7 +5,8 @@ use Rattle.std.proofs.lemmas.List.Elements.{All-get_or}
 use Rattle.std.proofs.lemmas.Option.{slice_get_cases}
 use Rattle.coord_model.specs.Allowed.{AreOnSteps, IsOnSteps}
 use Rattle.coord_model.specs.Choice.{Settings}
-use Rattle.coord_model.specs.Limits.{FitsRelay, FitsStudy}
+use Rattle.coord_model.specs.PartLimits.{FitsRelay}
+use Rattle.coord_model.specs.Limits.{FitsStudy}
 use Rattle.coord_model.specs.StudyData.{StudyData}
 use Rattle.coord_model.specs.declared.choice.Ending.{Ending}
 use Rattle.coord_model.specs.declared.choice.Ending.TheVariants.{Closed, NoSettings, BudgetSpent, Hairline}

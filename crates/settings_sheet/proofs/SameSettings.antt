@@ -7,7 +7,8 @@ use Rattle.std.proofs.lemmas.List.FromFn.{get_or-map-range_with_len}
 use Rattle.std.proofs.lemmas.Option.{slice_get_cases}
 use Rattle.coord_model.specs.Allowed.{AreOnSteps, IsOnSteps}
 use Rattle.coord_model.specs.Choice.{Settings}
-use Rattle.coord_model.specs.Limits.{FitsRelay, FitsStudy}
+use Rattle.coord_model.specs.PartLimits.{FitsRelay}
+use Rattle.coord_model.specs.Limits.{FitsStudy}
 use Rattle.coord_model.specs.StudyData.{StudyData}
 use Rattle.coord_model.specs.Time.{plug_at, dial_at}
 use Rattle.coord_model.specs.declared.study.Relay.{Relay}

@@ -9,7 +9,7 @@ use Rattle.std.proofs.lemmas.List.{append_cancel_left}
 use Rattle.std.proofs.lemmas.List.Folds.{list_all-append}
 use Rattle.std.proofs.lemmas.List.Sums.{take_while-cons}
 use Rattle.coord_model.specs.Allowed.{IsOnSteps}
-use Rattle.coord_model.specs.Limits.{FitsRelay}
+use Rattle.coord_model.specs.PartLimits.{FitsRelay}
 use Rattle.coord_model.specs.Name.{IsName, is_name_byte}
 use Rattle.coord_model.specs.StudyData.{StudyData}
 use Rattle.coord_model.specs.Time.{plug_at, dial_at}

@@ -4,7 +4,7 @@ use Rattle.std.specs.Fmt.{decimal}
 use Rattle.std.specs.List.{flat_map}
 use Rattle.std.specs.Option.{option_map_or}
 use Rattle.coord_model.specs.Choice.{Settings}
-use Rattle.coord_model.specs.Rows.{relay_numbers}
+use Rattle.coord_model.specs.Pairs.{relay_numbers}
 use Rattle.coord_model.specs.StudyData.{StudyData}
 use Rattle.coord_model.specs.Time.{plug_at, dial_at}
 use Rattle.coord_model.specs.declared.choice.Ending.{Ending}

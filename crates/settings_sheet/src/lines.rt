@@ -2,7 +2,8 @@
 ghost use Rattle.std.specs.Prelude.{◌≡◌, ◌+◌, ◌*◌, ◌<◌, ◌++◌, codes, OnOk};
 ghost use Rattle.coord_model.specs.Allowed.{AreOnSteps, IsOnSteps};
 ghost use Rattle.coord_model.specs.Choice.{choice_data};
-ghost use Rattle.coord_model.specs.Limits.{FitsStudy, FitsRelay};
+ghost use Rattle.coord_model.specs.Limits.{FitsStudy};
+ghost use Rattle.coord_model.specs.PartLimits.{FitsRelay};
 ghost use Rattle.coord_model.specs.StudyData.{study_data};
 ghost use Rattle.settings_sheet.specs.SheetText.{relay_line, relay_lines};
 

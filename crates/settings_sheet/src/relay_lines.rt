@@ -3,7 +3,8 @@ ghost use Rattle.std.specs.Prelude.{◌≡◌, ◌≢◌, ◌==◌, ℕ, ◌+◌
 ghost use Rattle.std.specs.List.{position_or_len};
 ghost use Rattle.coord_model.specs.Allowed.{AreOnSteps, IsOnSteps};
 ghost use Rattle.coord_model.specs.Choice.{choice_data};
-ghost use Rattle.coord_model.specs.Limits.{FitsRelay, FitsStudy};
+ghost use Rattle.coord_model.specs.PartLimits.{FitsRelay};
+ghost use Rattle.coord_model.specs.Limits.{FitsStudy};
 ghost use Rattle.coord_model.specs.Name.{IsName};
 ghost use Rattle.coord_model.specs.StudyData.{StudyData, study_data};
 ghost use Rattle.settings_sheet.specs.RelayStops.{AreNames, HasNoSpace, IsRelayStop};

@@ -1,6 +1,7 @@
 //! The studies that the tests use, and their currents.
 ghost use Rattle.std.specs.Prelude.{◌≡◌, ◌<◌, ◌≤◌, All, IfOk, length};
-ghost use Rattle.coord_model.specs.Limits.{FitsStudy, IsBetween};
+ghost use Rattle.coord_model.specs.Limits.{FitsStudy};
+ghost use Rattle.coord_model.specs.PartLimits.{IsBetween};
 ghost use Rattle.coord_model.specs.StudyData.{study_data, entries_of};
 
 use coord_model::{Current, Currents, CurveName, Fault, Line, Name, NoMemory, Relay, Study};

@@ -2,7 +2,7 @@ use Rattle.std.proofs.Common.{◌∙◌, ap}
 use Rattle.std.specs.Prelude.{codes}
 use Rattle.settings_sheet.specs.SheetText.{sheet_data, sheet_text}
 use Rattle.coord_run.specs.Outcome.{outcome_data}
-use Rattle.coord_run.specs.Refusal.{file_text}
+use Rattle.coord_run.specs.FileRefusal.{file_text}
 use Rattle.coord_run.proofs.settle.settle.Goals as goal
 
 pub returns : goal.returns

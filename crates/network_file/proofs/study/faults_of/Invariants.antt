@@ -1,5 +1,5 @@
 use Rattle.std.proofs.Common.{◌≡◌, [], drop, vec_len, All}
-use Rattle.coord_model.specs.Limits.{FitsFault}
+use Rattle.coord_model.specs.PartLimits.{FitsFault}
 use Rattle.network_file.specs.Fault.{each_after}
 use Rattle.network_file.specs.Fits.{study_with}
 use Rattle.network_file.specs.Study.{fault_names, next_fault}

@@ -5,7 +5,7 @@ use Rattle.std.proofs.lemmas.Result.{err_from_is_err_and}
 use Rattle.coord_model.specs.declared.kinds.TableName.TheVariants as tables
 use Rattle.coord_model.specs.declared.study.Relay.{Relay}
 use Rattle.network_file.specs.Fault.{Fails}
-use Rattle.coord_model.specs.Limits.{FitsRelay}
+use Rattle.coord_model.specs.PartLimits.{FitsRelay}
 use Rattle.network_file.specs.Fits.{study_with}
 use Rattle.network_file.specs.Study.{next_relay}
 use Rattle.network_file.specs.Elements.{place_after}

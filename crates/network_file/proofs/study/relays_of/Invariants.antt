@@ -1,6 +1,7 @@
 use Rattle.std.proofs.Common.{◌≡◌, [], drop, vec_len, All}
 use Rattle.std.specs.List.{AllPairs}
-use Rattle.coord_model.specs.Limits.{FitsRelay, StandTogether}
+use Rattle.coord_model.specs.PartLimits.{FitsRelay}
+use Rattle.coord_model.specs.Limits.{StandTogether}
 use Rattle.network_file.specs.Fault.{each_after}
 use Rattle.network_file.specs.Fits.{study_with}
 use Rattle.network_file.specs.Study.{relay_names, next_relay}

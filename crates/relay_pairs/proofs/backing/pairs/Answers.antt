@@ -1,7 +1,7 @@
 use Rattle.std.specs.List.{AllPairs, Contains, flat_map, range_with_len}
 use Rattle.std.proofs.Common.{◌≡◌, ℕ, List, length, arith, sym, ap, ◌∙◌, subst}
 use Rattle.std.specs.Prelude.{◌≢◌, ◌↔◌, IsTrue}
-use Rattle.coord_model.specs.Rows.{backs, pairs_behind, pairs_of}
+use Rattle.coord_model.specs.Pairs.{backs, pairs_behind, pairs_of}
 use Rattle.coord_model.specs.StudyData.{study_data}
 use Rattle.coord_model.specs.declared.study.Pair.{Pair}
 use Rattle.relay_pairs.specs.Order.{ComesBefore}

@@ -1,6 +1,6 @@
 use Rattle.std.proofs.Common.{◌≡◌}
 use Rattle.std.specs.List.{range_with_len, flat_map}
-use Rattle.coord_model.specs.Rows.{pairs_behind}
+use Rattle.coord_model.specs.Pairs.{pairs_behind}
 use Rattle.coord_model.specs.StudyData.{study_data}
 use Rattle.relay_pairs.proofs.backing.pairs.Given as goal
 

@@ -1,6 +1,6 @@
 use Rattle.std.proofs.Common.{◌≡◌, ◌++◌, map}
 use Rattle.std.specs.List.{range_with_len, filter}
-use Rattle.coord_model.specs.Rows.{backs}
+use Rattle.coord_model.specs.Pairs.{backs}
 use Rattle.coord_model.specs.StudyData.{study_data}
 use Rattle.relay_pairs.proofs.backing.push_pairs_behind.Given as goal
 

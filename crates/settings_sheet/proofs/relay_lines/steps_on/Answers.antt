@@ -1,7 +1,7 @@
 use Rattle.std.proofs.Common.{◌≡◌, ℕ, List, ◌++◌, ap, refl, sym, ◌∙◌, arith}
 use Rattle.std.specs.Prelude.{codes}
 use Rattle.coord_model.specs.Allowed.{IsOnSteps}
-use Rattle.coord_model.specs.Limits.{FitsRelay}
+use Rattle.coord_model.specs.PartLimits.{FitsRelay}
 use Rattle.coord_model.specs.StudyData.{StudyData}
 use Rattle.coord_model.specs.Time.{plug_at, dial_at}
 use Rattle.coord_model.specs.declared.study.Relay.{Relay}
