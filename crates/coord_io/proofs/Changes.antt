@@ -4,7 +4,6 @@ use Rattle.std.specs.Cmp.Lexicographic.{nat_list_cmp_total}
 use Rattle.std.specs.FinMap.{get-insert, same_map, slice_cmp-IsAntisymmetric, nat_cmp-IsAntisymmetric}
 use Rattle.std.specs.Option.{ForSome}
 use Rattle.std.specs.Str.{bytes_eq}
-use Rattle.std.proofs.lemmas.Bool.{false_from_ne_true}
 use Rattle.std.proofs.lemmas.Map.Text.{is_eq-slice_cmp}
 use Rattle.std.proofs.lemmas.Slice.Eq.{bytes_eq-Decides}
 use Rattle.coord_io.specs.Files.{Files, held, HasFile, with_file, Becomes, StaysOrEmpty, StaysOrPart, Gains, GainsPart}
@@ -20,12 +19,6 @@ held-with_file m name bytes other =
 pub held-with_file_same : (m : Files) (name bytes : List ℕ) → held (with_file m name bytes) name ≡ Some bytes
 held-with_file_same m name bytes =
     held-with_file m name bytes name ∙ ap (λ (t : Bool). cond t (Some bytes) (held m name)) ((bytes_eq-Decides name name).1 refl)
-
--- the other files are as before
-pub held-with_file_other : (m : Files) (name bytes other : List ℕ) → other ≢ name → held (with_file m name bytes) other ≡ held m other
-held-with_file_other m name bytes other apart =
-    held-with_file m name bytes other
-    ∙ ap (λ (t : Bool). cond t (Some bytes) (held m other)) (false_from_ne_true _ (λ same. apart ((bytes_eq-Decides other name).0 same)))
 
 -- files that are held alike are the same
 pub same_files : (m n : Files) → ((name : List ℕ) → held m name ≡ held n name) → m ≡ n
@@ -95,13 +88,6 @@ gains_more name added after l m n some more = record {
   was = some.was;
   becomes = becomes_more l m n name (some.had ++ added) after some.becomes more ∙ ap (with_file l name) (append_assoc some.had added after);
 }
-
--- the other files are as before
-pub becomes_others : (m n : Files) (name bytes other : List ℕ) → Becomes name bytes m n → other ≢ name → held n other ≡ held m other
-becomes_others m n name bytes other put apart = ap (λ (k : Files). held k other) put ∙ held-with_file_other m name bytes other apart
-
-pub gains_others : (m n : Files) (name added other : List ℕ) → Gains name added m n → other ≢ name → held n other ≡ held m other
-gains_others m n name added other more apart = becomes_others m n name _ other more.becomes apart
 
 some_is : {X : Type 0} (o : Option X) (x : X) → o ≡ Some x → IsSome o
 some_is {X = X} o x is = subst (λ (p : Option X). IsSome p) (sym is) refl

@@ -2,10 +2,6 @@
 use Rattle.std.proofs.Common.{ℕ, ◌≤◌, arith}
 use Rattle.coord_io.specs.Faults.{Rose}
 
--- what rose at first has risen after more calls
-pub rose_first : (before between now : ℕ) → Rose before between → between ≤ now → Rose before now
-rose_first before between now rose later = omega arith
-
 -- what rose in the last call has risen since the first
 pub rose_last : (before between now : ℕ) → before ≤ between → Rose between now → Rose before now
 rose_last before between now earlier rose = omega arith

@@ -1,5 +1,5 @@
 -- What is told goes on from call to call.
-use Rattle.std.proofs.Common.{◌≡◌, Option, Some, None, refl, subst}
+use Rattle.std.proofs.Common.{◌≡◌, Option, Some, refl, subst}
 use Rattle.coord_io.specs.Goes.{Goes, Stays}
 
 -- two calls in turn make the step that joins theirs
@@ -42,18 +42,6 @@ goes_here {T} {step} {m} {n} made = record {
       let e : n ≡ k = cc in
       (m, refl, subst (λ (v : T). step m v) e made);
 }
-
--- where both ends are told, the step holds between them
-pub goes_told : {T : Type 0} {told later : Option T} {step : T → T → Type 0} {m n : T} → Goes told later step → told ≡ Some m → later ≡ Some n → step m n
-goes_told {T} {told} {later} {step} {m} {n} call was is =
-    let k = call.came n is in
-    let e : k.0 ≡ m = cc in
-    subst (λ (v : T). step v n) e k.2
-
--- untold stays untold
-pub goes_untold : {T : Type 0} {told later : Option T} {step : T → T → Type 0} → Goes told later step → told ≡ None → later ≡ None
-goes_untold {T} {told} {later} {step} call untold =
-    elim later as (λ l. later ≡ l → l ≡ None) [ None ↦ λ _. refl | Some n ↦ λ is. let m = call.came n is in cc ] refl
 
 -- the same, where what was told at first is known by an equation
 pub goes_viewed : {T : Type 0} {step : T → T → Type 0} {told m n : T} → m ≡ told → step m n → Goes (Some told) (Some n) step

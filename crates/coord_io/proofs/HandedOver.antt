@@ -1,5 +1,5 @@
 -- Bytes that are handed over in pieces.
-use Rattle.std.proofs.Common.{◌≡◌, ℕ, ◌+◌, ◌-◌, List, [], ◌++◌, length, take, drop, Option, refl, sym, ap, subst, ◌∙◌, append_assoc, append-nil, take-append-drop}
+use Rattle.std.proofs.Common.{◌≡◌, ℕ, ◌+◌, ◌-◌, List, [], ◌++◌, length, take, drop, Option, refl, sym, ap, subst, ◌∙◌, append_assoc, take-append-drop}
 use Rattle.std.proofs.lemmas.List.{take_rest}
 use Rattle.std.proofs.Math.Seq.{take-append-add}
 use Rattle.std.specs.Option.{ForSome}
@@ -27,12 +27,6 @@ handed_more {bytes = bytes} {rest = rest} join count before more = record {
   given = goes_on (join before.gone (take count rest)) before.given more;
 }
 
--- with nothing left all bytes are handed over
-pub handed_whole : {T : Type 0} {gives : List ℕ → T → T → Type 0} {told now : Option T} {bytes rest : List ℕ} → Handed gives told now bytes rest → rest ≡ [] → Goes told now (gives bytes)
-handed_whole {T} {gives} {told} {now} {bytes} {rest} before none =
-    let whole : before.gone ≡ bytes = sym (append-nil before.gone) ∙ ap (λ (r : List ℕ). before.gone ++ r) (sym none) ∙ before.all in
-    subst (λ (b : List ℕ). Goes told now (gives b)) whole before.given
-
 -- a front of what is left, after all before it, is a front of all
 pub handed_part :
     {T : Type 0} {gives : List ℕ → T → T → Type 0} {told now later : Option T} {bytes rest : List ℕ}
@@ -51,14 +45,6 @@ handed_none told name bytes there = record {
   gone = [];
   all = refl;
   given = goes_as (λ m n was same. subst (λ (k : Files). Gains name [] m k) (sym same) (gains_nothing m name (there m was))) (goes_stays told);
-}
-
--- nothing is handed over yet, to a sink
-pub written_none : (told : Option (List ℕ)) (bytes : List ℕ) → Handed Gained told told bytes bytes
-written_none told bytes = record {
-  gone = [];
-  all = refl;
-  given = goes_as (λ m n was same. same ∙ sym (append-nil m)) (goes_stays told);
 }
 
 -- a sink gains some bytes, and then more

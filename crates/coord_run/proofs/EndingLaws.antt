@@ -1,5 +1,5 @@
 -- Which ending a hairline and what is issued beside it come to.
-use Rattle.std.proofs.Common.{ℕ, ◌+◌, ◌<◌, ◌≤◌, Some, None}
+use Rattle.std.proofs.Common.{ℕ, ◌+◌, ◌<◌, ◌≤◌, Some}
 use Rattle.coord_run.specs.Bounds.{IsBound, IsGap}
 use Rattle.coord_run.specs.Ending.{IsClosed}
 use Rattle.coord_run.specs.Hairlines.{IsHair, IsHairline, IsUndecided}
@@ -25,7 +25,3 @@ closes case issued hair bound gap undecided is_gap close = record {
 pub stays : (case : Case) (issued : IssuedData) (hair : HairData) (bound gap : ℕ) → IsUndecided case (Some issued) hair bound → IsGap case gap → bound + gap < issued.cost
     → IsHairline case (Some issued) hair bound
 stays case issued hair bound gap undecided is_gap far = record { undecided = undecided; not_closed = (gap, is_gap, far) }
-
--- or nothing is issued
-pub stays_alone : (case : Case) (hair : HairData) (bound : ℕ) → IsUndecided case None hair bound → IsHairline case None hair bound
-stays_alone case hair bound undecided = record { undecided = undecided; not_closed = tt }

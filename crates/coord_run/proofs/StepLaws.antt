@@ -6,7 +6,7 @@ use Rattle.std.proofs.lemmas.Option.{slice_get_within}
 use Rattle.coord_model.specs.Allowed.{IsSensible}
 use Rattle.coord_run.specs.Steps.{HasTwoSteps, SpansTwo}
 use Rattle.margin_rows.specs.Case.{Case}
-use Rattle.margin_rows.specs.FirstBox.{HasNoStep, IsFirstSpan, IsFirstSpanOf, IsFirstStep}
+use Rattle.margin_rows.specs.FirstBox.{IsFirstSpanOf, IsFirstStep}
 use Rattle.margin_rows.proofs.Places.{some_and}
 
 -- only relays of the study have steps
@@ -15,21 +15,7 @@ first_step_below case relay step first =
     let found = some_and (slice_get case.study.relays relay) (λ r. (step < r.plug_count) × IsSensible case.study case.currents relay r step) first in
     slice_get_within case.study.relays relay found.0 found.1
 
--- a relay with a span has a step
-pub span_has_step : (case : Case) (relay low high : ℕ) → IsFirstSpan case relay low high → HasNoStep case relay → ⊥
-span_has_step case relay low high span none = none low (span.inside low (omega arith) span.ordered)
-
--- a span of two steps, and two steps of a span
-pub two_of_span : (case : Case) (relay : ℕ) (o : Option (ℕ × ℕ)) → IsFirstSpanOf case relay o → SpansTwo o → HasTwoSteps case relay
-two_of_span case relay None span two = absurd two
-two_of_span case relay (Some at) span two = record {
-  step = at.0;
-  other = at.1;
-  differ = λ same. omega (arith, same, two);
-  is_first = span.inside at.0 (omega arith) (omega (arith, two));
-  is_first_too = span.inside at.1 (omega (arith, two)) (omega arith);
-}
-
+-- a relay with two steps has a span of two
 pub span_of_two : (case : Case) (relay : ℕ) (o : Option (ℕ × ℕ)) → IsFirstSpanOf case relay o → HasTwoSteps case relay → SpansTwo o
 span_of_two case relay None none two = absurd (none two.step two.is_first)
 span_of_two case relay (Some at) span two =

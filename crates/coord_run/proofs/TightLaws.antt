@@ -14,7 +14,7 @@ use Rattle.box_range.specs.Kinds as side
 use Rattle.box_range.specs.declared.kind.Kind.{Kind}
 use Rattle.box_range.specs.declared.kind.Kind.TheVariants.{Pickup, Dial}
 use Rattle.box_range.proofs.Order.{drops_keep, drops_within}
-use Rattle.box_range.proofs.Spans.{each_some, has_span, has_steps, lies, lies_at, no_span, span_has}
+use Rattle.box_range.proofs.Spans.{has_span, has_steps, lies, lies_at, no_span, span_has}
 use Rattle.box_range.proofs.Within.{IsWithin, lies_within}
 use Rattle.coord_model.specs.Allowed.{IsAllowed, dial_of}
 use Rattle.coord_model.specs.Choice.{Settings}
@@ -33,7 +33,7 @@ use Rattle.coord_run.specs.Steps.{HasManyPickups}
 use Rattle.margin_rows.specs.Box.{Box, IsFirstBox, IsIn, LiesIn}
 use Rattle.margin_rows.specs.Case.{Case, FitsCase, rows_in}
 use Rattle.margin_rows.specs.FirstBox.{HasEmptyFirstBox, IsFirstStep, IsInFirstBox}
-use Rattle.margin_rows.specs.Least.{AreFirstPickups, IsStrict, IsStrictLeast, IsStrictLeastOf}
+use Rattle.margin_rows.specs.Least.{IsStrict, IsStrictLeast, IsStrictLeastOf}
 use Rattle.margin_rows.specs.Margin.{MeetsLoosely, MeetsStrictly, greatest_ps, interval_ps, least_ps}
 use Rattle.margin_rows.specs.Price.{cost_of}
 use Rattle.margin_rows.specs.Times.{time_at}
@@ -206,13 +206,6 @@ module _ (case : Case) (fits : FitsCase case) (one : (many : HasManyPickups case
   -- where no settings with their pickups are strict, no choice of the first box strictly meets every row
   pub none_strictly : IsStrictLeastOf case lowest.pickup None → (other : Settings) → IsInFirstBox case other → ¬ (All (MeetsStrictly case other) (rows_in case))
   none_strictly none other inside = λ met. none other (record { same_pickups = same_pickups other inside; on_steps = inside.on_steps; met = met })
-
-  -- their pickups are those of the first box
-  pub lowest_pickups : AreFirstPickups case lowest.pickup
-  lowest_pickups = record {
-    count = (lowest_first case lowest tight).on_steps.pickups;
-    each = each_some lowest.pickup (IsFirstStep case) 0 (λ i below. pickup_first case lowest i (lowest_first case lowest tight) (omega (arith, below, (lowest_first case lowest tight).on_steps.pickups)));
-  }
 
   -- what is issued of their pickups, beside them
   pub beside : (issued : Option IssuedData) → IsIssuedOf case lowest.pickup issued → IsBeside case issued

@@ -3,7 +3,7 @@ use Rattle.std.specs.Prelude.{◌≡◌, ℕ, ◌+◌, ◌<◌, Option, Some, No
 use Rattle.coord_model.specs.Choice.{Settings}
 use Rattle.coord_run.specs.Bounds.{IsGap, AreLowestTight, IsBelowAll}
 use Rattle.coord_run.specs.Issuing.{IsIssued}
-use Rattle.coord_run.specs.Outcome.{HairData, IssuedData, hairline}
+use Rattle.coord_run.specs.Outcome.{HairData, IssuedData}
 use Rattle.margin_rows.specs.Case.{AtRow, Case, rows_in}
 use Rattle.margin_rows.specs.FirstBox.{IsInFirstBox}
 use Rattle.margin_rows.specs.Margin.{MeetsLoosely, MeetsStrictly}

@@ -1,9 +1,9 @@
 -- The table of currents, entry by entry.
 use Rattle.std.specs.Prelude.{◌&&◌, ◌==◌, nat_lt}
-use Rattle.std.proofs.Common.{◌≡◌, ℕ, ◌+◌, ◌*◌, ◌<◌, Bool, true, false, cond, List, [], ◌∷◌, ◌++◌, length, replicate, set, take, get_or, arith, refl, sym, ap, ◌∙◌, inl, inr, subst}
+use Rattle.std.proofs.Common.{◌≡◌, ℕ, ◌+◌, ◌*◌, ◌<◌, Bool, true, false, cond, List, [], ◌∷◌, ◌++◌, length, set, take, get_or, arith, refl, sym, ap, ◌∙◌, inl, inr, subst}
 use Rattle.std.proofs.lemmas.Bool.{cases_eq, cases_lt, eqb-true}
 use Rattle.std.proofs.lemmas.Bool.Decides.{nat_tests}
-use Rattle.std.proofs.lemmas.List.{length-set, take_more, get_or-set_same, get_or-set_other, get_or-replicate, length-replicate}
+use Rattle.std.proofs.lemmas.List.{length-set, take_more, get_or-set_same, get_or-set_other}
 use Rattle.std.proofs.lemmas.Nat.{same_from_place}
 use Rattle.std.specs.List.{All}
 use Rattle.coord_model.specs.Rows.{amps_at}
@@ -54,10 +54,6 @@ others_stay relays xs entry f r apart =
       | inl some ↦ amps_kept xs (entry ∷ []) f r some
       | inr none ↦ let zero : amps_at xs f r ≡ 0 = omega (arith, none) in amps_open xs (entry ∷ []) f r zero ∙ amps_of_other entry f r apart ∙ sym zero
     ]
-
--- an empty table is that of no entries
-pub filled_none : (relays n : ℕ) → HoldsAmps relays [] (replicate n 0)
-filled_none relays n = record { each = λ f r below within. get_or-replicate n (f * relays + r) 0 0 (omega (arith, within, length-replicate {A = ℕ} n 0)) }
 
 -- one entry more, written where nothing stands yet
 pub filled_write : (relays : ℕ) (xs : List Current) (entry : Current) (table : List ℕ) → HoldsAmps relays xs table → HasPlace relays (length table) entry

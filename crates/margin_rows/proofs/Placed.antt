@@ -4,7 +4,7 @@ use Rattle.std.specs.Option.{IfSome, option_map_or}
 use Rattle.std.specs.List.{Contains, All, sum_by}
 use Rattle.std.proofs.Common.{◌≡◌, ℕ, ◌+◌, ◌*◌, ◌^◌, ◌<◌, ◌≤◌, ◌↔◌, List, length, get_or, take, Some, None, Option, arith, refl, sym, ap, ◌∙◌, subst}
 use Rattle.std.proofs.lemmas.Int.{ints}
-use Rattle.std.proofs.lemmas.List.{get_or_default, take_all}
+use Rattle.std.proofs.lemmas.List.{get_or_default}
 use Rattle.std.proofs.lemmas.List.Concat.{length-flat_map}
 use Rattle.std.proofs.lemmas.List.FromFn.{length-range_with_len}
 use Rattle.std.proofs.lemmas.List.Sums.{sum_by-le, sum_by_more}
@@ -22,13 +22,7 @@ use Rattle.coord_model.specs.Enclosure.{Enclosure}
 use Rattle.margin_rows.specs.Margin.{margin}
 use Rattle.margin_rows.specs.Times.{ends, IsOrdinary}
 
--- a fact of the row at a place is one of the row with its number
-pub row_there : (case : Case) (rows : List Row) (i : ℕ) (r : Row) → rows ≡ rows_in case → i < length rows → r ≡ get_or rows i r → slice_get (rows_in case) i ≡ Some r
-row_there case rows i r same below is = let P : List Row → Type 0 = λ rs. slice_get rs i ≡ Some r in subst P same (slice_get-get_or rows i r below ∙ ap Some (sym is))
-
-pub term_there : (case : Case) (terms : List Term) (i : ℕ) (t : Term) → terms ≡ terms_in case → i < length terms → t ≡ get_or terms i t → slice_get (terms_in case) i ≡ Some t
-term_there case terms i t same below is = let P : List Term → Type 0 = λ ts. slice_get ts i ≡ Some t in subst P same (slice_get-get_or terms i t below ∙ ap Some (sym is))
-
+-- what is found at a place is in the list
 pub found_listed : {X : Type 0} (xs : List X) (i : ℕ) (x : X) → slice_get xs i ≡ Some x → Contains xs x
 found_listed xs i x found = (i, slice_get_within xs i x found, get_or_from_slice_get xs i x x found)
 
@@ -109,10 +103,6 @@ part_more case part term sum value result below so_far same is =
     let d : Term = record { fault = 0; relay = 0 } in
     let here = of_some (slice_get (terms_in case) term) (λ t. value ≡ part t) (get_or (terms_in case) term d) (slice_get-get_or (terms_in case) term d below) is in
     omega (arith, sum_by_more part (terms_in case) term d below, so_far, same, here)
-
--- the whole sum
-pub part_all : (case : Case) (part : Term → ℕ) (term sum : ℕ) → length (terms_in case) ≤ term → sum ≡ sum_by part (take term (terms_in case)) → sum ≡ sum_by part (terms_in case)
-part_all case part term sum past so_far = so_far ∙ ap (λ (ts : List Term). sum_by part ts) (take_all term (terms_in case) past)
 
 -- an end of a time at a dial and a weight
 pub weighted_is : (w w' d d' t t' r : ℕ) → r ≡ w * d * t → w ≡ w' → d ≡ d' → t ≡ t' → r ≡ w' * d' * t'

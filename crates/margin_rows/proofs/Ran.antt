@@ -3,7 +3,7 @@ use Rattle.std.specs.Prelude.{slice_get, slice_index}
 use Rattle.std.proofs.Common.{◌≡◌, ℕ, ◌+◌, ◌*◌, ◌<◌, Bool, true, false, cond, leb, List, [], ◌∷◌, ◌++◌, length, set, get_or, Some, Option, arith, refl, sym, ap, ◌∙◌, inl, inr, subst}
 use Rattle.std.specs.Option.{IsSomeAnd}
 use Rattle.std.proofs.lemmas.Bool.{le-leb, leb-true, cases_eq}
-use Rattle.std.proofs.lemmas.List.{append_assoc, append-nil, get_or_append_left, get_or-append-add, length-append, length-set, get_or-set_same, get_or-set_other, get_or_push, length_push}
+use Rattle.std.proofs.lemmas.List.{append_assoc, get_or_append_left, get_or-append-add, length-append, length-set, get_or-set_same, get_or-set_other, get_or_push, length_push}
 use Rattle.std.proofs.lemmas.List.FromFn.{length-map-range_with_len, get_or-map-range_with_len}
 use Rattle.std.proofs.lemmas.Nat.{same_from_place}
 use Rattle.std.proofs.lemmas.Option.{slice_get-get_or, slice_get_within, get_or_from_slice_get}
@@ -48,9 +48,6 @@ run_grown case old new f r start extends run =
       each = λ step timed. let P : List (ℕ × ℕ) → Type 0 = λ ts. slice_get ts (start + step) ≡ Some (ends (time_at case f r step)) in
           subst P (sym extends.1) (slice_get_grown old extends.0 (start + step) (ends (time_at case f r step)) (run.each step timed));
     }
-
-pub extends_none : (old : List (ℕ × ℕ)) → Extends old old
-extends_none old = ([], sym (append-nil old))
 
 pub extends_again : (old mid new : List (ℕ × ℕ)) → Extends old mid → Extends mid new → Extends old new
 extends_again old mid new first second = (first.0 ++ second.0, second.1 ∙ (ap (λ (t : List (ℕ × ℕ)). t ++ second.0) first.1 ∙ append_assoc old first.0 second.0))

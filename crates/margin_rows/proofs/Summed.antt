@@ -1,13 +1,13 @@
 -- The weighted times of the relays, added up term by term.
 use Rattle.std.specs.Prelude.{slice_get, slice_index, ◌==◌, if◌then◌else◌}
-use Rattle.std.proofs.Common.{◌≡◌, ◌≢◌, ℕ, ◌+◌, ◌*◌, ◌^◌, ◌<◌, ◌≤◌, List, [], length, get_or, replicate, set, take, None, Option, arith, refl, sym, ap, ◌∙◌, inl, inr, subst}
-use Rattle.std.specs.List.{All, Contains, sum_by}
+use Rattle.std.proofs.Common.{◌≡◌, ◌≢◌, ℕ, ◌+◌, ◌*◌, ◌^◌, ◌<◌, ◌≤◌, List, length, get_or, set, take, None, Option, arith, refl, sym, ap, ◌∙◌, inl, inr, subst}
+use Rattle.std.specs.List.{All, Contains}
 use Rattle.std.specs.Option.{IsSomeAnd}
 use Rattle.std.proofs.lemmas.Bool.{cases_eq}
 use Rattle.std.proofs.lemmas.Bool.Decides.{nat_tests}
-use Rattle.std.proofs.lemmas.List.{length-set, get_or-set_same, get_or-set_other, length-replicate}
+use Rattle.std.proofs.lemmas.List.{length-set, get_or-set_same, get_or-set_other}
 use Rattle.std.proofs.lemmas.List.Elements.{Contains-get_or}
-use Rattle.std.proofs.lemmas.List.Sums.{sum_by-le, sum_by-take-le, sum_by_more}
+use Rattle.std.proofs.lemmas.List.Sums.{sum_by-le, sum_by-take-le}
 use Rattle.std.proofs.lemmas.Nat.{mul-le, same_from_place}
 use Rattle.std.proofs.lemmas.Option.{slice_get_within, get_or_from_slice_get}
 use Rattle.coord_model.specs.Cost.{weight_of}
@@ -23,7 +23,7 @@ use Rattle.margin_rows.proofs.Looked.{run_time, first_ordinary}
 use Rattle.margin_rows.proofs.Placed.{terms_few, weight_there}
 use Rattle.margin_rows.proofs.Places.{some_and}
 use Rattle.margin_rows.proofs.Spanned.{first_step_small}
-use Rattle.margin_rows.proofs.Written.{in_list, zeros_at}
+use Rattle.margin_rows.proofs.Written.{in_list}
 
 -- what counts where two numbers are the same, and nothing where they differ
 pub chosen : (k i n : ℕ) → k ≡ i → (if k == i then n else 0) ≡ n
@@ -136,21 +136,6 @@ all_added case term low high past old new fits span end added i step first = eli
       apart (sym (same_from_place i step term.relay s 64 few (first_step_small case term.relay s fits (span.inside s from (omega (arith, before, end)))) place).0)) in
       rw (not_chosen term.relay i (weight_of case.study term.fault * (time_at case term.fault i step).lower) apart) (omega (arith, kept))
 ]
-
--- zeros are the sums over no terms
-pub no_sums : (case : Case) (n : ℕ) (table : List ℕ) → n ≡ length case.study.relays * 64 → table ≡ replicate n 0 → HoldsSums case [] table
-no_sums case n table size zeros = rw zeros (record { size = length-replicate {A = ℕ} n 0 ∙ size; each = λ i step first. zeros_at n (i * 64 + step) })
-
--- one term more
-pub sums_more : (case : Case) (number : ℕ) (term : Term) (old new : List ℕ) → number < length (terms_in case) → term ≡ get_or (terms_in case) number term → length new ≡ length old
-    → ((i step : ℕ) → IsFirstStep case i step → get_or new (i * 64 + step) 0 ≡ get_or old (i * 64 + step) 0 + term_part case i step term)
-    → HoldsSums case (take number (terms_in case)) old → HoldsSums case (take (number + 1) (terms_in case)) new
-sums_more case number term old new below is size added so_far = record {
-  size = size ∙ so_far.size;
-  each = λ i step first.
-      added i step first ∙ ap (λ (k : ℕ). k + term_part case i step term) (so_far.each i step first) ∙ ap (λ (t : Term). sum_by (term_part case i step) (take number (terms_in case)) + term_part case i step t) is
-      ∙ sym (sum_by_more (term_part case i step) (terms_in case) number term below);
-}
 
 -- a sum over some of the terms is small
 pub sums_small : (case : Case) (number i step : ℕ) (table : List ℕ) → FitsCase case → HoldsSums case (take number (terms_in case)) table → IsFirstStep case i step → get_or table (i * 64 + step) 0 ≤ 2 ^ 59
