@@ -1,12 +1,23 @@
 use super::*;
 
+/// Asserts that each text with its parts replaced is refused for its fault.
+fn refuses_each(
+    rt: &(impl AllocGlobal + Abort),
+    cases: &[(&[(&str, &str)], NetFault)],
+) -> Result<(), AllocError> {
+    for (changes, fault) in cases {
+        let text = changed(rt, changes)?;
+        refuses(rt, &text, *fault);
+    }
+    Ok(())
+}
+
 #[test]
-fn names_the_first_fault(rt: HostRuntime) -> Result<(), Fail> {
+fn faults_of_the_top_are_named(rt: HostRuntime) -> Result<(), Fail> {
     use Key::*;
     use NetKind::*;
-    use TableName::{Exempt, Fault, Line, Relay, Study, Top};
-    let cases: [(&[(&str, &str)], NetFault); 61] = [
-        // the top
+    use TableName::{Exempt, Line, Top};
+    let cases: [(&[(&str, &str)], NetFault); 13] = [
         (&[("format = 1\n", "")], at(Missing, Top, 0, Format)),
         (
             &[("format = 1", "format = \"1\"")],
@@ -53,7 +64,17 @@ fn names_the_first_fault(rt: HostRuntime) -> Result<(), Fail> {
             &[("format = 1", "format = 1\nexempt = [[]]")],
             in_whole(WrongKind, Exempt, 1),
         ),
-        // the study
+    ];
+    refuses_each(&rt, &cases)?;
+    Ok(())
+}
+
+#[test]
+fn faults_of_the_study_are_named(rt: HostRuntime) -> Result<(), Fail> {
+    use Key::*;
+    use NetKind::*;
+    use TableName::Study;
+    let cases: [(&[(&str, &str)], NetFault); 8] = [
         (
             &[("cti_ms = 300", "cti_ms = 300\ncti = 1")],
             in_whole(UnknownKey, Study, 0),
@@ -83,7 +104,17 @@ fn names_the_first_fault(rt: HostRuntime) -> Result<(), Fail> {
             &[("cti_ms = 300", "cti_ms = 300\nload_percent = 99")],
             at(OutOfRange, Study, 0, LoadPercent),
         ),
-        // a line
+    ];
+    refuses_each(&rt, &cases)?;
+    Ok(())
+}
+
+#[test]
+fn faults_of_a_line_are_named(rt: HostRuntime) -> Result<(), Fail> {
+    use Key::*;
+    use NetKind::*;
+    use TableName::Line;
+    let cases: [(&[(&str, &str)], NetFault); 6] = [
         (
             &[("from = \"A\"", "from = \"A\"\nvia = 1")],
             in_whole(UnknownKey, Line, 1),
@@ -102,7 +133,17 @@ fn names_the_first_fault(rt: HostRuntime) -> Result<(), Fail> {
             &[("to = \"C\"", "to = \"C D\"")],
             at(OutOfRange, Line, 2, To),
         ),
-        // a relay
+    ];
+    refuses_each(&rt, &cases)?;
+    Ok(())
+}
+
+#[test]
+fn faults_of_a_relay_are_named(rt: HostRuntime) -> Result<(), Fail> {
+    use Key::*;
+    use NetKind::*;
+    use TableName::Relay;
+    let cases: [(&[(&str, &str)], NetFault); 15] = [
         (
             &[("load_amps = 0", "amps = 0")],
             in_whole(UnknownKey, Relay, 1),
@@ -160,7 +201,17 @@ fn names_the_first_fault(rt: HostRuntime) -> Result<(), Fail> {
             &[("load_amps = 0", "load_amps = 100001")],
             at(OutOfRange, Relay, 1, LoadAmps),
         ),
-        // a fault and an exempt pair
+    ];
+    refuses_each(&rt, &cases)?;
+    Ok(())
+}
+
+#[test]
+fn faults_of_a_fault_and_an_exempt_pair_are_named(rt: HostRuntime) -> Result<(), Fail> {
+    use Key::*;
+    use NetKind::*;
+    use TableName::{Exempt, Fault};
+    let cases: [(&[(&str, &str)], NetFault); 3] = [
         (
             &[("weight = 1", "share = 1")],
             in_whole(UnknownKey, Fault, 1),
@@ -173,7 +224,17 @@ fn names_the_first_fault(rt: HostRuntime) -> Result<(), Fail> {
             &[("format = 1", "format = 1\nexempt = [{backup = \"R1\"}]")],
             at(Missing, Exempt, 1, Primary),
         ),
-        // lines, relays, faults and pairs together
+    ];
+    refuses_each(&rt, &cases)?;
+    Ok(())
+}
+
+#[test]
+fn faults_between_entries_are_named(rt: HostRuntime) -> Result<(), Fail> {
+    use Key::*;
+    use NetKind::*;
+    use TableName::{Exempt, Fault, Line, Relay};
+    let cases: [(&[(&str, &str)], NetFault); 13] = [
         (
             &[("name = \"BC\"", "name = \"AB\"")],
             at(DoubleName, Line, 2, Name),
@@ -241,7 +302,17 @@ fn names_the_first_fault(rt: HostRuntime) -> Result<(), Fail> {
             )],
             at(UnknownName, Exempt, 1, Primary),
         ),
-        // of two faults the earlier rule's, or the earlier place's
+    ];
+    refuses_each(&rt, &cases)?;
+    Ok(())
+}
+
+#[test]
+fn of_two_faults_the_earlier_is_named(rt: HostRuntime) -> Result<(), Fail> {
+    use Key::*;
+    use NetKind::*;
+    use TableName::{Fault, Line, Top};
+    let cases: [(&[(&str, &str)], NetFault); 3] = [
         (
             &[("format = 1", "format = 2\nbus = 1")],
             at(OutOfRange, Top, 0, Format),
@@ -258,9 +329,6 @@ fn names_the_first_fault(rt: HostRuntime) -> Result<(), Fail> {
             at(OutOfRange, Fault, 1, Weight),
         ),
     ];
-    for (changes, fault) in cases {
-        let text = changed(&rt, changes)?;
-        refuses(&rt, &text, fault);
-    }
+    refuses_each(&rt, &cases)?;
     Ok(())
 }

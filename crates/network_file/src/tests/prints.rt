@@ -62,7 +62,8 @@ dial_first = 15000
 fn heavy_faults(rt: &impl AllocGlobal, text: &mut String) -> Result<(), AllocError> {
     for fault in 0..88 {
         let table = format!(in rt.alloc();
-            "[[fault]]\nname = \"Z{fault}\"\nline = \"K{}\"\nweight = 1000\n",
+            "[[fault]]\nname = \"Z{}\"\nline = \"K{}\"\nweight = 1000\n",
+            fault + 1,
             fault % 48 + 1
         )?;
         text.push_str(&table)?;
