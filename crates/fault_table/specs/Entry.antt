@@ -1,7 +1,7 @@
 -- A record of the currents table (ours): a fault's name, a relay's name and whole primary amperes.
-use Rattle.std.specs.Prelude.{ℕ, ◌+◌, ◌-◌, ◌*◌, Bool, ◌&&◌, ◌==◌, nat_eq, nat_le, nat_lt, Option, Some, None, Result, Ok, Err, List, [], ◌∷◌, length, fold, position, if◌then◌else◌}
+use Rattle.std.specs.Prelude.{ℕ, ◌+◌, ◌-◌, ◌*◌, Bool, ◌&&◌, ◌==◌, nat_le, nat_lt, Option, Some, None, Result, Ok, Err, List, [], ◌∷◌, length, fold, position, if◌then◌else◌}
 use Rattle.std.specs.List.{list_all, list_any}
-use Rattle.std.specs.Cmp.Lexicographic.{pointwise}
+use Rattle.std.specs.Str.{bytes_eq}
 use Rattle.coord_model.specs.StudyData.{StudyData}
 use Rattle.coord_model.specs.declared.study.Current.{Current}
 use Rattle.fault_table.specs.declared.fault.TableFault.{TableFault}
@@ -28,10 +28,6 @@ three_fields (a ∷ b ∷ []) = None
 three_fields (a ∷ b ∷ c ∷ []) = Some (a, b, c)
 three_fields (a ∷ b ∷ c ∷ d ∷ more) = None
 
--- the texts are the same
-abbrev pub is_same : List ℕ → List ℕ → Bool
-is_same a b = pointwise nat_eq a b
-
 -- the byte is a decimal digit
 abbrev pub is_digit : ℕ → Bool
 is_digit b = nat_le 48 b && nat_le b 57
@@ -48,10 +44,10 @@ amps_in field =
 
 -- the number of the fault with this name, and of the relay
 abbrev pub fault_named : StudyData → List ℕ → Option ℕ
-fault_named study name = position (λ fault. is_same fault.name name) study.faults
+fault_named study name = position (λ fault. bytes_eq fault.name name) study.faults
 
 abbrev pub relay_named : StudyData → List ℕ → Option ℕ
-relay_named study name = position (λ relay. is_same relay.name name) study.relays
+relay_named study name = position (λ relay. bytes_eq relay.name name) study.relays
 
 -- an earlier entry is for the same fault and relay
 abbrev pub is_repeated : List Current → Current → Bool

@@ -1,12 +1,13 @@
 -- The currents table (ours), over the records that CSV gives for its bytes.
 use Rattle.std.specs.Prelude.{ℕ, ◌≡◌, Bool, false, suc, ◌&&◌, ◌==◌, nat_lt, not, Option, Some, None, Result, Ok, Err, List, [], ◌∷◌, ◌++◌, find, slice_get, codes, if◌then◌else◌}
 use Rattle.std.specs.List.{list_any}
+use Rattle.std.specs.Str.{bytes_eq}
 use Rattle.csv.specs.Reading.{default_config, records_from, strip_bom}
 use Rattle.csv.specs.declared.parser.State.TheVariants as state
 use Rattle.coord_model.specs.Rows.{fault_numbers, stands_on}
 use Rattle.coord_model.specs.StudyData.{StudyData}
 use Rattle.coord_model.specs.declared.study.Current.{Current}
-use Rattle.fault_table.specs.Entry.{Fields, go_on, is_same, next_entry, three_fields}
+use Rattle.fault_table.specs.Entry.{Fields, go_on, next_entry, three_fields}
 use Rattle.fault_table.specs.declared.fault.TableFault.{TableFault}
 use Rattle.fault_table.specs.declared.fault.TableFault.TheVariants.{BadHeader, NoPrimary}
 
@@ -37,7 +38,7 @@ fed study entries = elim (unfed_fault study entries) as (λ _. Result (List Curr
 -- the record is the header `fault,relay,amps`
 unfoldable pub is_header : Fields → Bool
 is_header fields = elim (three_fields fields) as (λ _. Bool)
-    [ None ↦ false | Some t ↦ is_same t.0 (codes "fault") && is_same t.1 (codes "relay") && is_same t.2 (codes "amps") ]
+    [ None ↦ false | Some t ↦ bytes_eq t.0 (codes "fault") && bytes_eq t.1 (codes "relay") && bytes_eq t.2 (codes "amps") ]
 
 -- the currents that records stand for, or their first fault
 abbrev pub table_of : StudyData → List Fields → Result (List Current) TableFault

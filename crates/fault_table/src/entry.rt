@@ -1,10 +1,11 @@
 //! One record of the table.
 ghost use Rattle.std.specs.Prelude.{◌≡◌, ◌+◌, ◌<◌, ◌≤◌, ◌^◌, length, IfOk, IfSome, IsTrue, option_map};
 ghost use Rattle.std.specs.List.{list_all};
+ghost use Rattle.std.specs.Str.{bytes_eq};
 ghost use Rattle.csv.specs.Records.{fields_of};
 ghost use Rattle.coord_model.specs.Limits.{FitsStudy, FitsCurrent};
 ghost use Rattle.coord_model.specs.StudyData.{study_data};
-ghost use Rattle.fault_table.specs.Entry.{amps_in, entry_of, fault_named, is_digit, is_repeated, is_same, next_entry, record_of, relay_named, three_fields, value_of};
+ghost use Rattle.fault_table.specs.Entry.{amps_in, entry_of, fault_named, is_digit, is_repeated, next_entry, record_of, relay_named, three_fields, value_of};
 
 use crate::fault::TableFault;
 use coord_model::{Current, Name, Study};
@@ -87,7 +88,7 @@ fn entry_of(
 
 /// Whether the name is spelled so.
 fn is_named(own: &Name, name: &[u8]) -> bool
-    ensures { result ≡ is_same own.now name.now }
+    ensures { result ≡ bytes_eq own.now name.now }
 {
     own.bytes() == name
 }

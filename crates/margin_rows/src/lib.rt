@@ -1,9 +1,10 @@
 //! A study with its currents, ready to be coordinated: which operating times count, where a backup has to wait, and
-//! the enclosure of each time.
+//! the enclosure of each time. Over that the margins and the cost of a choice, the least dials for given pickups, the
+//! least gap, and boxes of choices.
 //!
 //! Times are in nanoseconds at dial 1, each with a lower and an upper end. Dials are in thousandths, so that a
-//! dial times a time, and a margin, is in picoseconds. Costs are in whole weighted microseconds. Which choice is
-//! best is left to others.
+//! dial times a time, and a margin, is in picoseconds. Costs and gaps are in whole weighted microseconds. Which pickups
+//! are best is left to others.
 #![tactic(auto)]
 
 mod dial;

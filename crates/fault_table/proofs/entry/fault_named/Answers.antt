@@ -1,5 +1,5 @@
 use Rattle.std.proofs.Common.{sym, ◌∙◌}
-use Rattle.fault_table.specs.Entry.{is_same}
+use Rattle.std.specs.Str.{bytes_eq}
 use Rattle.fault_table.proofs.TableReads.{position-first}
 use Rattle.fault_table.proofs.entry.fault_named.Goals as goal
 
@@ -7,6 +7,6 @@ pub returns-then-is_named-clause-exact : goal.returns-then-is_named-clause-exact
 returns-then-is_named-clause-exact c =
     let items = c.args.study.now.faults.items in
     let found = c.fault-item.result in
-    sym (position-first (λ x. is_same x.name c.args.name.now) items c.loop-i.i found
+    sym (position-first (λ x. bytes_eq x.name c.args.name.now) items c.loop-i.i found
     (rw c.deref-fault-items.ensures.value at c.loop-i-test.true) (rw c.deref-fault-items.ensures.value at c.fault-item.is)
     (sym c.is_named.ensures ∙ c.if-is_named.true) c.loop-i.invariant)

@@ -1,7 +1,7 @@
 use Rattle.std.proofs.Common.{◌≡◌, take}
 use Rattle.std.specs.List.{position_or_len}
-use Rattle.fault_table.specs.Entry.{is_same}
+use Rattle.std.specs.Str.{bytes_eq}
 use Rattle.fault_table.proofs.entry.relay_named.Given as goal
 
 abbrev pub invariant-loop-i : goal.invariant-loop-i
-invariant-loop-i l = position_or_len (λ x. is_same x.name l.name) (take l.i l.study.relays.items) ≡ l.i
+invariant-loop-i l = position_or_len (λ x. bytes_eq x.name l.name) (take l.i l.study.relays.items) ≡ l.i
