@@ -1,22 +1,28 @@
 -- What the two ends of an operating time keep, from where the power of the multiple lies.
-use Rattle.std.proofs.Common.{ℕ, ◌+◌, ◌-◌, ◌*◌, ◌/◌, ◌^◌, ◌<◌, ◌≤◌, ◌≡◌, ap, arith}
+use Rattle.std.proofs.Common.{ℕ, Bool, ◌+◌, ◌-◌, ◌*◌, ◌/◌, ◌^◌, ◌<◌, ◌≤◌, ◌≡◌, ap, arith}
 use Rattle.std.proofs.Math.Nat.{mul-le-mul_left, mul-le-mul_right, le_of_mul-le-mul_right, one-le-pow, pow-le-pow_left}
 use Rattle.std.proofs.lemmas.Nat.{le-div, mul-pow}
 use Rattle.std.specs.Int.{div_ceil}
-use Rattle.coord_model.specs.Enclosure.{ends_between, constant_ns, IsNotAbove}
+use Rattle.coord_model.specs.Enclosure.{Enclosure, ends_between, constant_ns, width_of, IsNotAbove}
 use Rattle.coord_model.specs.Time.{Multiple, excess, IsUnder, IsOver}
 use Rattle.coord_model.specs.declared.curve.CurveForm.{CurveForm}
 use Rattle.coord_model.proofs.Quotients.{floor_within, floor_near, floor_ceil, ceil_covers, ceil_least, ceil_some, ceil_next}
 
--- the power of the multiple lies between low/unit and high/unit, and neither too near to 1 nor too high
+-- the power of the multiple lies between low/unit and high/unit
 pub record HasPower (form : CurveForm) (m : Multiple) (unit low high : ℕ) : Type 0 where
   pub some_unit : 0 < unit
   pub above_one : unit < low
   pub ordered : low ≤ high
   pub low_power : low ^ form.h * m.den ^ form.e ≤ unit ^ form.h * m.num ^ form.e
   pub high_power : m.num ^ form.e * unit ^ form.h ≤ high ^ form.h * m.den ^ form.e
-  pub steep : form.k4 * unit ≤ 8000000 * (low - unit)
-  pub at_most : high ≤ 900 * unit
+
+-- what an enclosure of a curve's time keeps
+pub record Keeps (is_custom : Bool) (form : CurveForm) (m : Multiple) (ends : Enclosure) : Type 0 where
+  pub under : IsUnder form m ends.lower (10 ^ 9)
+  pub over : IsOver form m ends.upper (10 ^ 9)
+  pub ordered : ends.lower ≤ ends.upper
+  pub narrow : ends.upper ≤ ends.lower + width_of is_custom form
+  pub bounded : (0 < ends.lower) × (ends.upper < 2 ^ 40)
 
 -- ---- powers
 
@@ -139,16 +145,21 @@ root_ends_narrow form low high few above ordered near =
         let few : n ≤ 200000000000 = omega (arith, mul-le-mul_left n far, mul-le-mul_left n wider, within, small) in
         omega (arith, mul-le-mul_left (n + 1) near, next, few, far)
 
--- neither end is nothing, and both fit into forty bits
-pub ends_bounded : (form : CurveForm) (m : Multiple) (unit low high : ℕ) → 0 < form.k4 → form.c4 ≤ 10000 → HasPower form m unit low high
-    → (0 < (ends_between form unit low high).lower) × ((ends_between form unit low high).upper < 2 ^ 40)
-ends_bounded form m unit low high some small power =
+-- the lower end is not nothing
+pub lower_some : (form : CurveForm) (m : Multiple) (unit low high : ℕ) → 0 < form.k4 → HasPower form m unit low high → high ≤ 100000 * unit
+    → 0 < (ends_between form unit low high).lower
+lower_some form m unit low high some power at_most =
     let scaled = form.k4 * 100000 * unit in
     let least : 1 ≤ scaled / (high - unit) =
-    le-div 1 scaled (high - unit) (omega (arith, power.above_one, power.ordered)) (omega (arith, mul-le-mul_right unit some, power.at_most)) in
-    let most : div_ceil scaled (low - unit) ≤ 800000000000 =
-    ceil_least scaled (low - unit) 800000000000 (omega (arith, power.above_one)) (omega (arith, power.steep)) in
-    (omega (arith, least), plain (div_ceil scaled (low - unit)) form.c4 most small)
+    le-div 1 scaled (high - unit) (omega (arith, power.above_one, power.ordered)) (omega (arith, mul-le-mul_right unit some, at_most)) in
+    omega (arith, least)
+
+-- the upper end fits into forty bits, where the power is not too near to 1
+pub upper_small : (form : CurveForm) (unit low high : ℕ) → form.c4 ≤ 10000 → unit < low → form.k4 * unit ≤ 8000000 * (low - unit)
+    → (ends_between form unit low high).upper < 2 ^ 40
+upper_small form unit low high small above_one steep =
+    plain (div_ceil (form.k4 * 100000 * unit) (low - unit)) form.c4
+    (ceil_least (form.k4 * 100000 * unit) (low - unit) 800000000000 (omega (arith, above_one)) (omega (arith, steep))) small
   where
     plain : (x c : ℕ) → x ≤ 800000000000 → c ≤ 10000 → x + c * 100000 < 2 ^ 40
     plain x c p q = omega arith

@@ -3,3 +3,7 @@ pub mod Quotients
 pub mod CurveEnds
 pub mod NamedCurves
 pub mod OrderLaws
+pub mod CustomPowers
+pub mod CustomProducts
+pub mod CustomRoots
+pub mod CustomSpreads

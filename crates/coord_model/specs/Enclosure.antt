@@ -1,6 +1,6 @@
 -- The enclosure of an operating time at dial 1 in whole nanoseconds (ours): the lower end is at most the curve's
 -- time, the upper end at least it.
-use Rattle.std.specs.Prelude.{ℕ, ◌+◌, ◌-◌, ◌*◌, ◌/◌, ◌^◌, ◌≤◌, ◌==◌, if◌then◌else◌}
+use Rattle.std.specs.Prelude.{ℕ, Bool, ◌+◌, ◌-◌, ◌*◌, ◌/◌, ◌^◌, ◌≤◌, ◌==◌, if◌then◌else◌}
 use Rattle.std.specs.Int.{div_ceil}
 use Rattle.coord_model.specs.Time.{Multiple}
 use Rattle.coord_model.specs.declared.curve.CurveForm.{CurveForm}
@@ -10,7 +10,7 @@ pub record Enclosure : Type 0 where
   pub lower : ℕ
   pub upper : ℕ
 
--- two ends of the fiftieth root of a multiple, in units of 2^-56
+-- two ends of the power of a multiple that a curve takes, M^(e/h), where it is a root
 pub record Root : Type 0 where
   pub low : ℕ
   pub high : ℕ
@@ -33,17 +33,26 @@ ends_between form unit low high =
 abbrev pub whole_enclosure : CurveForm → Multiple → Enclosure
 whole_enclosure form m = ends_between form (m.den ^ form.e) (m.num ^ form.e) (m.num ^ form.e)
 
--- with a fiftieth as exponent the power is the root, which lies between its ends
-abbrev pub root_enclosure : CurveForm → Root → Enclosure
-root_enclosure form root = ends_between form (2 ^ 56) root.low root.high
+-- the ends of a root are in these parts of one: 2^56 for a curve of the standards, 2^48 for one of its own constants
+abbrev pub root_unit : Bool → ℕ
+root_unit is_custom = if is_custom then 2 ^ 48 else 2 ^ 56
 
--- the enclosure of a curve's time at a multiple, given the ends of the multiple's fiftieth root
-abbrev pub enclosure : CurveForm → Root → Multiple → Enclosure
-enclosure form root m = if form.h == 1 then whole_enclosure form m else root_enclosure form root
+-- with a broken exponent the power is a root, which lies between its ends
+abbrev pub root_enclosure : Bool → CurveForm → Root → Enclosure
+root_enclosure is_custom form root = ends_between form (root_unit is_custom) root.low root.high
+
+-- the enclosure of a curve's time at a multiple, given the ends of the root that it takes
+abbrev pub enclosure : Bool → CurveForm → Root → Multiple → Enclosure
+enclosure is_custom form root m =
+    if form.h == 1 then whole_enclosure form m else root_enclosure is_custom form root
+
+-- how far apart the ends of a root's time may lie, in nanoseconds
+abbrev pub root_width : Bool → ℕ
+root_width is_custom = if is_custom then 5000 else 100
 
 -- how far apart the ends may lie, in nanoseconds
-abbrev pub width_of : CurveForm → ℕ
-width_of form = if form.h == 1 then 1 else 100
+abbrev pub width_of : Bool → CurveForm → ℕ
+width_of is_custom form = if form.h == 1 then 1 else root_width is_custom
 
 -- a multiple whose time is enclosed: from 1.05 to 30, of numbers within the limits
 pub record IsEnclosable (m : Multiple) : Type 0 where

@@ -1,6 +1,8 @@
 pub mod Allowed
 pub mod Choice
 pub mod Cost
+pub mod CustomForm
+pub mod CustomRoot
 pub mod Enclosure
 pub mod Form
 pub mod Limits

@@ -6,11 +6,13 @@ use Rattle.coord_model.specs.declared.study.Currents.{Currents}
 use Rattle.coord_model.specs.declared.study.Exempt.{Exempt}
 use Rattle.coord_model.specs.declared.study.Fault.{Fault}
 use Rattle.coord_model.specs.declared.study.Line.{Line}
+use Rattle.coord_model.specs.declared.study.PairInterval.{PairInterval}
 use Rattle.coord_model.specs.declared.study.Relay.{Relay}
 use Rattle.coord_model.specs.declared.study.Study.{Study}
 
 -- what a study holds
 pub record StudyData : Type 0 where
+  pub format : ℕ
   pub cti_ms : ℕ
   pub sense : ℕ
   pub cap : ℕ
@@ -20,10 +22,12 @@ pub record StudyData : Type 0 where
   pub relays : List Relay
   pub faults : List Fault
   pub exempt : List Exempt
+  pub intervals : List PairInterval
 
 -- the data of a study
 abbrev pub study_data : Study → StudyData
 study_data study = record {
+  format = study.format;
   cti_ms = study.cti_ms;
   sense = study.sense;
   cap = study.cap;
@@ -33,6 +37,7 @@ study_data study = record {
   relays = study.relays.items;
   faults = study.faults.items;
   exempt = study.exempt.items;
+  intervals = study.intervals.items;
 }
 
 -- the entries of the currents table, in the order of the file

@@ -3,7 +3,7 @@ ghost use Rattle.std.specs.Prelude.{◌≡◌};
 ghost use Rattle.coord_model.specs.Form.{form_of};
 
 /// A dependent-time curve. IEC 60255-151: A inverse, B very inverse, C extremely inverse.
-/// IEEE C37.112: MI moderately, VI very, EI extremely inverse.
+/// IEEE C37.112: MI moderately, VI very, EI extremely inverse. A custom curve has constants of its own, as `CurveForm` has.
 #[derive(Clone, Copy, PartialEq, Eq, Debug)]
 pub enum CurveName {
     IecA,
@@ -12,6 +12,7 @@ pub enum CurveName {
     IeeeMi,
     IeeeVi,
     IeeeEi,
+    Custom { k4: u32, c4: u32, e: u32, h: u32 },
 }
 
 /// The numbers of a curve: `k / (M^(e/h) - 1) + c` seconds at the multiple of pickup M. `k4` and `c4` are
@@ -24,7 +25,7 @@ pub struct CurveForm {
     pub h: u32,
 }
 
-/// The numbers of a curve, as IEC 60255-151 and IEEE C37.112 give them.
+/// The numbers of a curve, as IEC 60255-151 and IEEE C37.112 give them, or its own.
 pub fn form(curve: CurveName) -> CurveForm
     ensures { result ≡ form_of curve }
 {
@@ -35,6 +36,7 @@ pub fn form(curve: CurveName) -> CurveForm
         CurveName::IeeeMi => (515, 1_140, 1, 50),
         CurveName::IeeeVi => (196_100, 4_910, 2, 1),
         CurveName::IeeeEi => (282_000, 1_217, 2, 1),
+        CurveName::Custom { k4, c4, e, h } => (k4, c4, e, h),
     };
     CurveForm { k4, c4, e, h }
 }
@@ -44,7 +46,7 @@ pub fn form(curve: CurveName) -> CurveForm
 /// `enclose` takes the multiple of pickup `num/den`, from 1.05 to 30, and answers the two ends of the time at
 /// dial 1 in whole nanoseconds: the first at most the curve's time, the second at least it.
 pub trait Curve {
-    ghost use Rattle.std.specs.Prelude.{◌≡◌, ℕ, ◌+◌, ◌^◌, ◌<◌, ◌≤◌};
+    ghost use Rattle.std.specs.Prelude.{◌≡◌, ℕ, Bool, ◌+◌, ◌^◌, ◌<◌, ◌≤◌};
     ghost use Rattle.coord_model.specs.Enclosure.{Root, enclosure, width_of, IsEnclosable, IsAtMost, IsNotAbove};
     ghost use Rattle.coord_model.specs.Time.{Multiple, IsUnder, IsOver};
     ghost use Rattle.coord_model.specs.declared.curve.CurveForm.{CurveForm};
@@ -52,23 +54,30 @@ pub trait Curve {
     /// The numbers of the curve.
     ghost numbers: { Self → CurveForm };
 
-    /// The ends that it takes for the fiftieth root of a multiple.
-    ghost root: { Multiple → Root };
+    /// Whether its constants are its own, and not those of a standard.
+    ghost is_custom: { Bool };
+
+    /// The constants are ones that such a curve may have.
+    ghost HasConstants: { Self → Type 0 };
+
+    /// The ends that it takes for the power of a multiple, where that is a root.
+    ghost root: { Self → Multiple → Root };
 
     fn form(&self) -> CurveForm
-        ensures { result ≡ numbers self.now };
+        ensures exact { result ≡ numbers self.now }
+        ensures constants { HasConstants self.now };
 
     fn enclose(&self, num: u64, den: u64) -> (u64, u64)
         requires { IsEnclosable (record { num = num; den = den }) }
         ensures exact { let m : Multiple = record { num = num; den = den } in
-            let ends = enclosure (numbers self.now) (root m) m in result ≡ (ends.lower, ends.upper) }
+            let ends = enclosure is_custom (numbers self.now) (root self.now m) m in result ≡ (ends.lower, ends.upper) }
         ensures under { IsUnder (numbers self.now) (record { num = num; den = den }) result.0 (10 ^ 9) }
         ensures over { IsOver (numbers self.now) (record { num = num; den = den }) result.1 (10 ^ 9) }
         ensures ordered { result.0 ≤ result.1 }
-        ensures narrow { result.1 ≤ result.0 + width_of (numbers self.now) }
+        ensures narrow { result.1 ≤ result.0 + width_of is_custom (numbers self.now) }
         ensures bounded { (0 < result.0) × (result.1 < 2 ^ 40) };
 
     /// Neither end rises as the multiple grows.
-    ghost falls: { (c : Self) (m m' : Multiple) → IsEnclosable m → IsEnclosable m' → IsAtMost m m'
-        → IsNotAbove (enclosure (numbers c) (root m') m') (enclosure (numbers c) (root m) m) };
+    ghost falls: { (c : Self) (m m' : Multiple) → HasConstants c → IsEnclosable m → IsEnclosable m' → IsAtMost m m'
+        → IsNotAbove (enclosure is_custom (numbers c) (root c m') m') (enclosure is_custom (numbers c) (root c m) m) };
 }

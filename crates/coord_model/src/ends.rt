@@ -7,12 +7,12 @@ use crate::curve::CurveForm;
 /// The time `k / (P - 1) + c` of a curve at dial 1 in whole nanoseconds: its lower end and its upper end.
 ///
 /// P is the power of the multiple, M^(e/h). It lies between `low/unit` and `high/unit`. The lower end is the
-/// time at the high end, rounded down, and the upper end the time at the low end, rounded up. Not where P is
-/// below 1367/1366: there the time is long, and at 1 it has no end.
+/// time at the high end, rounded down, and the upper end the time at the low end, rounded up. P is at least
+/// 4097/4096: near to 1 the time is long, and at 1 it has no end.
 pub fn ends_between(form: CurveForm, unit: u128, low: u128, high: u128) -> (u64, u64)
     requires some_unit { 0 < unit }
-    requires unit_bounded { unit < 2 ^ 64 }
-    requires above_one { 1367 * unit ≤ 1366 * low }
+    requires fits { form.k4 * 100000 * unit < 2 ^ 127 }
+    requires above_one { 4097 * unit ≤ 4096 * low }
     requires ordered { low ≤ high }
     ensures exact { let ends = ends_between form unit low high in result ≡ (ends.lower, ends.upper) }
 {

@@ -24,6 +24,7 @@ pub enum TableName {
     Relay,
     Fault,
     Exempt,
+    Interval,
 }
 
 /// A key of the network file. Keys of one spelling in several tables are one.
@@ -35,6 +36,7 @@ pub enum Key {
     Relay,
     Fault,
     Exempt,
+    Interval,
     CtiMs,
     Sense,
     Cap,
@@ -53,6 +55,12 @@ pub enum Key {
     DialStep,
     DialCount,
     LoadAmps,
+    LeastMs,
+    MostMs,
+    CustomK,
+    CustomC,
+    CustomJ,
+    CustomH,
     Weight,
     Backup,
     Primary,
@@ -65,6 +73,7 @@ pub enum What {
     Relays,
     Faults,
     Exempt,
+    Intervals,
     Buses,
     PickupSteps,
     Currents,

@@ -14,6 +14,7 @@ pub struct Line {
 ///
 /// Pickup step `s` has the plug `plug_first + s * plug_step`, in hundredths of a secondary ampere. Dial step
 /// `d` has the dial `dial_first + d * dial_step`, in thousandths. The load is in primary amperes, 0 for none.
+/// `least_ms` and `most_ms` bound the operating time at each primary fault, in milliseconds, 0 for no limit.
 #[derive(Clone, Copy)]
 pub struct Relay {
     pub name: Name,
@@ -29,6 +30,8 @@ pub struct Relay {
     pub dial_step: u32,
     pub dial_count: u32,
     pub load_amps: u32,
+    pub least_ms: u32,
+    pub most_ms: u32,
 }
 
 /// A fault on a line, with the weight that its primary operating times have in the cost.
@@ -46,14 +49,24 @@ pub struct Exempt {
     pub primary: u16,
 }
 
+/// A coordination interval of a pair's own, in milliseconds. The relays are given by their numbers.
+#[derive(Clone, Copy)]
+pub struct PairInterval {
+    pub backup: u16,
+    pub primary: u16,
+    pub cti_ms: u32,
+}
+
 /// A coordination study: the network, its relays and its faults.
 ///
-/// `cti_ms` is the coordination interval in milliseconds. `sense` is the least multiple of pickup at which a
+/// `format` is that of its file, which only printing asks for. `cti_ms` is the coordination interval in
+/// milliseconds of each pair that is not among the `intervals`. `sense` is the least multiple of pickup at which a
 /// relay has to sense a current, in hundredths, and `cap` the multiple past which its time falls no further.
 /// `load_percent` is the least pickup, in percent of the load. Buses are numbered by their first mention in
 /// the lines, `from` before `to`.
 #[derive(Drop)]
 pub struct Study {
+    pub format: u32,
     pub cti_ms: u32,
     pub sense: u32,
     pub cap: u32,
@@ -63,6 +76,7 @@ pub struct Study {
     pub relays: Vec<Relay>,
     pub faults: Vec<Fault>,
     pub exempt: Vec<Exempt>,
+    pub intervals: Vec<PairInterval>,
 }
 
 /// The current that a relay carries at a fault in its tripping direction, in primary amperes; 0 for none.
@@ -86,9 +100,21 @@ pub struct Pair {
     pub primary: u16,
 }
 
-/// A fault at which a backup has to wait for a primary.
+/// What a row asks for.
+#[derive(Clone, Copy, PartialEq, Eq, Debug)]
+pub enum RowKind {
+    /// The backup waits the coordination interval longer than the primary.
+    Interval,
+    /// The primary takes at least its least time.
+    Least,
+    /// The primary takes at most its greatest time.
+    Most,
+}
+
+/// What is asked of operating times at a fault. In a least and in a most row the backup is the primary.
 #[derive(Clone, Copy, PartialEq, Eq, Debug)]
 pub struct Row {
+    pub kind: RowKind,
     pub fault: u16,
     pub backup: u16,
     pub primary: u16,

@@ -8,10 +8,10 @@ use Rattle.root_interval.specs.Root.{IsAtMostRoot, IsAtLeastRoot, IsLowEnd, IsHi
 use Rattle.root_interval.proofs.RootLaws.{one_is_at_most, last_is_at_least}
 
 -- what holds of the greatest number up to n that passes a test
-record IsGreatest (passes : ℕ → Bool) (n g : ℕ) : Type 0 where
-  within : g ≤ n
-  passing : passes 0 ≡ true → passes g ≡ true
-  above : (k : ℕ) → k ≤ n → passes k ≡ true → k ≤ g
+pub record IsGreatest (passes : ℕ → Bool) (n g : ℕ) : Type 0 where
+  pub within : g ≤ n
+  pub passing : passes 0 ≡ true → passes g ≡ true
+  pub above : (k : ℕ) → k ≤ n → passes k ≡ true → k ≤ g
 
 one_more : (passes : ℕ → Bool) (n g : ℕ) (b : Bool) → passes (suc n) ≡ b → IsGreatest passes n g → IsGreatest passes (suc n) (if b then suc n else g)
 one_more passes n g true e h = record { within = omega arith; passing = λ _. e; above = λ k p _. p }
@@ -25,7 +25,7 @@ one_more passes n g false e h = record {
       ];
 }
 
-is_greatest : (passes : ℕ → Bool) (n : ℕ) → IsGreatest passes n (greatest passes n)
+pub is_greatest : (passes : ℕ → Bool) (n : ℕ) → IsGreatest passes n (greatest passes n)
 unfolding greatest
 is_greatest passes zero = record { within = omega arith; passing = λ p. p; above = λ k p _. p }
 is_greatest passes (suc n) = one_more passes n (greatest passes n) (passes (suc n)) refl (is_greatest passes n)
