@@ -1,5 +1,5 @@
 //! The enclosures of the curves.
-ghost use Rattle.std.specs.Prelude.{◌≡◌, ◌≤◌};
+ghost use Rattle.std.specs.Prelude.{◌≡◌, ◌≤◌, ⊤, false};
 ghost use Rattle.coord_model.specs.Enclosure.{enclosure, IsEnclosable};
 ghost use Rattle.coord_model.specs.Form.{form_of};
 ghost use Rattle.coord_model.specs.Time.{Multiple};
@@ -22,7 +22,7 @@ impl IeeeCurve {
     fn ends(&self, num: u64, den: u64) -> (u64, u64)
         requires { IsEnclosable (record { num = num; den = den }) }
         ensures { let m : Multiple = record { num = num; den = den } in
-            let ends = enclosure (form_of (name_of self.now)) (root_of m) m in result ≡ (ends.lower, ends.upper) }
+            let ends = enclosure false (form_of (name_of self.now)) (root_of m) m in result ≡ (ends.lower, ends.upper) }
     {
         let form = self.form();
         let whole_num = u128::from(num);
@@ -46,9 +46,13 @@ impl Curve for IeeeCurve {
 
     ghost numbers = { λ curve. form_of (name_of curve) };
 
-    ghost root = { root_of };
+    ghost is_custom = { false };
 
-    ghost falls = { laws.falls };
+    ghost HasConstants = { λ _. ⊤ };
+
+    ghost root = { λ _. root_of };
+
+    ghost falls = { λ c m m' _. laws.falls c m m' };
 
     fn form(&self) -> CurveForm {
         form(match self {

@@ -9,4 +9,4 @@ ends_between-requires-in-C-clause-above_one c =
 
 pub returns-in-B : goal.returns-in-B
 returns-in-B c =
-    rw (c.ends_between-in-B.ensures.exact, c.form-form.ensures, c.from-whole_den.ensures, c.from-whole_num.ensures, c.in-B.is, pow_one c.args.den, pow_one c.args.num) refl
+    rw (c.ends_between-in-B.ensures.exact, c.form-form.ensures.exact, c.from-whole_den.ensures, c.from-whole_num.ensures, c.in-B.is, pow_one c.args.den, pow_one c.args.num) refl

@@ -9,7 +9,7 @@ ends_between-requires-in-VI-clause-above_one c =
 
 pub returns-in-VI : goal.returns-in-VI
 returns-in-VI c =
-    rw (c.ends_between-in-VI.ensures.exact, c.form-form.ensures, c.from-whole_den.ensures, c.from-whole_num.ensures)
+    rw (c.ends_between-in-VI.ensures.exact, c.form-form.ensures.exact, c.from-whole_den.ensures, c.from-whole_num.ensures)
     (elim c.in-VI.is [
       | inl very ↦ rw (very, pow_two c.args.den, pow_two c.args.num) refl
       | inr extremely ↦ rw (extremely, pow_two c.args.den, pow_two c.args.num) refl

@@ -1,0 +1,3 @@
+pub mod EndLaws
+pub mod Ends
+pub mod Laws
