@@ -12,8 +12,7 @@ use Rattle.std.proofs.lemmas.List.Sums.{position_or_len_is}
 use Rattle.std.proofs.lemmas.Map.Keys.{apart_from_distinct, IsDistinct-push}
 use Rattle.indexmap.specs.IndexSet.{insert_key}
 use Rattle.coord_model.specs.declared.name.Name.{Name}
-use Rattle.network_file.specs.Named.{named}
-use Rattle.network_file.specs.Names.{number_in, with_ends, buses_of}
+use Rattle.network_file.specs.Names.{named, number_in, with_ends, buses_of}
 use Rattle.network_file.specs.declared.entries.LineEntry.{LineEntry}
 
 -- a number below the count is found again by its name

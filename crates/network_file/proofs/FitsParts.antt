@@ -1,13 +1,14 @@
 -- The limits of a study's parts speak of its buses, lines and relays alone.
 use Rattle.std.proofs.Common.{[], length, All}
 use Rattle.std.proofs.lemmas.List.Elements.{All-weaker}
-use Rattle.coord_model.specs.PartLimits.{FitsLine, FitsRelay, FitsFault, FitsExempt}
+use Rattle.coord_model.specs.PartLimits.{FitsLine, FitsRelay, FitsFault, FitsExempt, FitsInterval}
 use Rattle.coord_model.specs.StudyData.{StudyData}
 use Rattle.coord_model.specs.declared.study.Exempt.{Exempt}
 use Rattle.coord_model.specs.declared.study.Fault.{Fault}
 use Rattle.coord_model.specs.declared.study.Line.{Line}
+use Rattle.coord_model.specs.declared.study.PairInterval.{PairInterval}
 use Rattle.coord_model.specs.declared.study.Relay.{Relay}
-use Rattle.network_file.specs.Fits.{study_with, IsPairBelow}
+use Rattle.network_file.specs.Fits.{study_with, IsPairBelow, IsIntervalBelow}
 
 module _ (study : StudyData) where
   line_fits : (line : Line) → FitsLine (study_with study.buses [] []) line → FitsLine study line
@@ -17,6 +18,7 @@ module _ (study : StudyData) where
   relay_fits relay h = record {
     on_line = h.on_line;
     at_end = h.at_end;
+    curve = h.curve;
     ct_primary = h.ct_primary;
     ct_secondary = h.ct_secondary;
     plug_first = h.plug_first;
@@ -28,6 +30,8 @@ module _ (study : StudyData) where
     dial_count = h.dial_count;
     last_dial = h.last_dial;
     load_amps = h.load_amps;
+    least_ms = h.least_ms;
+    most_ms = h.most_ms;
   }
 
   fault_fits : (fault : Fault) → FitsFault (study_with study.buses study.lines []) fault → FitsFault study fault
@@ -35,6 +39,9 @@ module _ (study : StudyData) where
 
   pair_fits : (pair : Exempt) → IsPairBelow (length study.relays) pair → FitsExempt study pair
   pair_fits pair h = record { backup = h.backup; primary = h.primary }
+
+  interval_fits : (own : PairInterval) → IsIntervalBelow (length study.relays) own → FitsInterval study own
+  interval_fits own h = record { backup = h.backup; primary = h.primary; cti_ms = h.cti_ms }
 
   pub lines_fit : All (FitsLine (study_with study.buses [] [])) study.lines → All (FitsLine study) study.lines
   lines_fit h = All-weaker _ (FitsLine study) line_fits study.lines h
@@ -47,3 +54,6 @@ module _ (study : StudyData) where
 
   pub pairs_fit : All (IsPairBelow (length study.relays)) study.exempt → All (FitsExempt study) study.exempt
   pairs_fit h = All-weaker _ (FitsExempt study) pair_fits study.exempt h
+
+  pub intervals_fit : All (IsIntervalBelow (length study.relays)) study.intervals → All (FitsInterval study) study.intervals
+  intervals_fit h = All-weaker _ (FitsInterval study) interval_fits study.intervals h

@@ -1,3 +1,4 @@
+pub mod CurveFits
 pub mod Apart
 pub mod Different
 pub mod DocumentReads
@@ -5,6 +6,7 @@ pub mod EachAfter
 pub mod FitsParts
 pub mod ItemLists
 pub mod KnownKeys
+pub mod Lacking
 pub mod NameText
 pub mod NumberedAgain
 pub mod Numbering

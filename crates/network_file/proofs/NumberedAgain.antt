@@ -1,13 +1,11 @@
 -- What is told of a study whose names differ is numbered as that study.
-use Rattle.std.specs.Prelude.{◌-◌, ◌+◌, ◌*◌, ◌&&◌, ◌==◌, nat_le, sum_by}
+use Rattle.std.specs.Prelude.{◌-◌, ◌+◌, ◌*◌, ◌||◌, ◌==◌, nat_le, sum_by}
 use Rattle.std.specs.List.{AllPairs, IsDistinct, list_any}
 use Rattle.std.specs.Str.{bytes_eq}
-use Rattle.std.proofs.Common.{◌≡◌, ℕ, ◌<◌, ◌≤◌, true, false, List, [], ◌∷◌, ◌++◌, length, get_or, map, All, Result, Ok, refl, sym, ap, ◌∙◌, append_assoc, inl, inr, arith}
-use Rattle.std.proofs.lemmas.Bool.{cases_Bool}
+use Rattle.std.proofs.Common.{◌≡◌, ℕ, zero, suc, ◌<◌, ◌≤◌, true, false, List, [], ◌∷◌, ◌++◌, length, get_or, map, All, Result, Ok, refl, sym, ap, ◌∙◌, append_assoc, arith}
 use Rattle.std.proofs.lemmas.Bool.Decides.{nat_tests}
 use Rattle.std.proofs.lemmas.List.{append-nil, get_or_append_left, get_or_at, length-append, map-append, length-map}
-use Rattle.std.proofs.lemmas.List.Folds.{list_any_none}
-use Rattle.coord_model.specs.PartLimits.{FitsLine, FitsRelay, FitsFault, FitsExempt}
+use Rattle.coord_model.specs.PartLimits.{FitsLine, FitsRelay, FitsFault, FitsExempt, FitsInterval}
 use Rattle.coord_model.specs.Limits.{FitsStudy, StandTogether}
 use Rattle.coord_model.specs.StudyData.{StudyData}
 use Rattle.coord_model.specs.declared.kinds.What.{What}
@@ -16,17 +14,21 @@ use Rattle.coord_model.specs.declared.name.Name.{Name}
 use Rattle.coord_model.specs.declared.study.Exempt.{Exempt}
 use Rattle.coord_model.specs.declared.study.Fault.{Fault}
 use Rattle.coord_model.specs.declared.study.Line.{Line}
+use Rattle.coord_model.specs.declared.study.PairInterval.{PairInterval}
 use Rattle.coord_model.specs.declared.study.Relay.{Relay}
 use Rattle.network_file.specs.Fault.{each_after}
 use Rattle.network_file.specs.Fits.{IsRelayBelow}
-use Rattle.network_file.specs.Named.{line_told, relay_told, fault_told, pair_told, told_of}
-use Rattle.network_file.specs.Names.{new_name}
-use Rattle.network_file.specs.Numbered.{line_in, is_taken, relay_in, fault_on, exempt_in}
-use Rattle.network_file.specs.Rules.{IsNamed}
-use Rattle.network_file.specs.Study.{line_names, relay_names, fault_names, next_line, next_relay, next_fault, next_exempt, study_of}
+use Rattle.network_file.specs.Named.{line_told, relay_told, fault_told, pair_told, interval_told, told_of}
+use Rattle.network_file.specs.Names.{new_name, line_names, relay_names, fault_names}
+use Rattle.network_file.specs.Numbered.{line_in, relay_in, fault_on}
+use Rattle.network_file.specs.Pairs.{exempt_in, interval_in}
+use Rattle.network_file.specs.Rules.{IsNamed, IsInFormat, HasTimesInOrder, AreOfOnePair}
+use Rattle.network_file.specs.Study.{next_line, next_relay, next_fault, next_exempt, next_interval, grid_of, study_of}
 use Rattle.network_file.specs.Tables.{within}
 use Rattle.network_file.specs.declared.fault.NetFault.{NetFault}
 use Rattle.network_file.specs.declared.fault.Place.{Place}
+use Rattle.network_file.proofs.Apart.{free_end, free_pair}
+use Rattle.network_file.proofs.CurveFits.{curve_passes}
 use Rattle.network_file.proofs.Different.{number_again, ends_differ, absent_name, buses_differ}
 use Rattle.network_file.proofs.Placed.{relays_below}
 
@@ -58,21 +60,14 @@ fresh_name : {A : Type 0} (name : A → Name) (before : List A) (x : A) (rest : 
     → list_any (bytes_eq (name x)) (map name before) ≡ false
 fresh_name name before x rest differ = absent_name (map name before) (name x) (map name rest) (rw map-append at differ)
 
--- no relay before stands where one does that stands apart
-free_end : (before : List Relay) (relay : Relay) → All (λ other. ¬ (StandTogether other relay)) before → is_taken before relay.line relay.bus ≡ false
-free_end before relay apart =
-    list_any_none (λ (other : Relay). (other.line == relay.line) && (other.bus == relay.bus)) before (λ k d within.
-    not_both (get_or before k d) (apart k d within))
-  where
-    not_both : (other : Relay) → ¬ (StandTogether other relay) → ((other.line == relay.line) && (other.bus == relay.bus)) ≡ false
-    not_both other apart =
-        elim (cases_Bool ((other.line == relay.line) && (other.bus == relay.bus))) [
-          | inl both ↦ absurd (apart (record { line = grind (arith, nat_tests); bus = grind (arith, nat_tests) }))
-          | inr no_end ↦ no_end
-        ]
-
 passes_limit : (n limit : ℕ) → n ≤ limit → nat_le n limit ≡ true
 passes_limit n limit h = grind (arith, nat_tests)
+
+passes_most : (least most : ℕ) → (0 < most → least ≤ most) → ((most == 0) || nat_le least most) ≡ true
+passes_most least zero in_order = refl
+passes_most least (suc most) in_order =
+    let at_most : least ≤ suc most = in_order (omega arith) in
+    grind (arith, nat_tests, at_most)
 
 within_limit : (what : What) (limit count : ℕ) → count ≤ limit → within what limit count ≡ Ok tt
 unfolding within
@@ -89,7 +84,7 @@ each_numbered read tell before (x ∷ rest) numbered =
     (each_numbered read tell (before ++ x ∷ []) rest (λ front y back split. numbered front y back (sym (append_assoc before (x ∷ []) rest) ∙ split))
     ∙ ap Ok (append_assoc before (x ∷ []) rest))
 
-module _ (study : StudyData) (fits : FitsStudy study) (named_apart : IsNamed study) where
+module _ (study : StudyData) (fits : FitsStudy study) (named_apart : IsNamed study) (in_format : IsInFormat study) where
   bus_names : IsDistinct bytes_eq study.buses
   bus_names = rw named_apart.buses at (buses_differ (told_of study).lines)
 
@@ -120,8 +115,10 @@ module _ (study : StudyData) (fits : FitsStudy study) (named_apart : IsNamed stu
         number_again study.buses relay.bus bus_names below.bus,
         fit.at_end,
         free_end before relay (earlier study.relays before relay rest split (λ one other. ¬ (StandTogether one other)) fits.apart),
+        curve_passes _ relay.curve fit.curve,
         passes_limit (relay.plug_first + (relay.plug_count - 1) * relay.plug_step) 10000 fit.last_plug,
         passes_limit (relay.dial_first + (relay.dial_count - 1) * relay.dial_step) 15000 fit.last_dial,
+        passes_most relay.least_ms relay.most_ms (middle study.relays before relay rest split HasTimesInOrder in_format.in_order),
       )
 
   fault_numbered : (before : List Fault) (fault : Fault) (rest : List Fault) → study.faults ≡ before ++ fault ∷ rest
@@ -145,15 +142,36 @@ module _ (study : StudyData) (fits : FitsStudy study) (named_apart : IsNamed stu
         number_again (relay_names study.relays) pair.primary named_apart.relays (rw count fit.primary),
       )
 
+  interval_numbered : (before : List PairInterval) (own : PairInterval) (rest : List PairInterval) → study.intervals ≡ before ++ own ∷ rest
+      → next_interval (relay_names study.relays) before (interval_told (relay_names study.relays) own) ≡ Ok own
+  unfolding interval_in
+  interval_numbered before own rest split =
+      let fit = middle study.intervals before own rest split (FitsInterval study) fits.intervals in
+      let count = length-map study.relays (λ (relay : Relay). relay.name) in
+      rw (
+        number_again (relay_names study.relays) own.backup named_apart.relays (rw count fit.backup),
+        number_again (relay_names study.relays) own.primary named_apart.relays (rw count fit.primary),
+        free_pair before own (earlier study.intervals before own rest split (λ one other. ¬ (AreOfOnePair one other)) in_format.once),
+      )
+
+  grid_numbered : grid_of (map (line_told study.buses) study.lines) ≡ Ok study.lines
+  unfolding grid_of
+  grid_numbered =
+      rw (
+        named_apart.buses,
+        each_numbered (next_line study.buses) (line_told study.buses) [] study.lines line_numbered,
+        within_limit Buses 64 (length study.buses) fits.bus_count,
+      )
+
   pub numbered_again : study_of (told_of study) ≡ Ok study
   unfolding study_of
   numbered_again =
       rw (
         named_apart.buses,
-        each_numbered (next_line study.buses) (line_told study.buses) [] study.lines line_numbered,
-        within_limit Buses 64 (length study.buses) fits.bus_count,
+        grid_numbered,
         each_numbered (next_relay study.buses study.lines) (relay_told study.buses (line_names study.lines)) [] study.relays relay_numbered,
         within_limit PickupSteps 3072 (sum_by (λ (relay : Relay). relay.plug_count) study.relays) fits.pickup_steps,
         each_numbered (next_fault study.lines) (fault_told (line_names study.lines)) [] study.faults fault_numbered,
         each_numbered (next_exempt (relay_names study.relays)) (pair_told (relay_names study.relays)) [] study.exempt pair_numbered,
+        each_numbered (next_interval (relay_names study.relays)) (interval_told (relay_names study.relays)) [] study.intervals interval_numbered,
       )

@@ -1,17 +1,18 @@
 -- Arrays of tables, each taken whole (ours).
 use Rattle.std.specs.Prelude.{ℕ, ◌+◌, List, [], length, Result}
-use Rattle.coord_model.specs.declared.kinds.Key.TheVariants.{Line, Relay, Fault, Exempt}
+use Rattle.coord_model.specs.declared.kinds.Key.TheVariants.{Line, Relay, Fault, Exempt, Interval}
 use Rattle.coord_model.specs.declared.kinds.NetKind.TheVariants.{WrongKind}
 use Rattle.coord_model.specs.declared.kinds.TableName.{TableName}
 use Rattle.coord_model.specs.declared.kinds.TableName.TheVariants as tables
 use Rattle.coord_model.specs.declared.kinds.What.TheVariants as counted
 use Rattle.network_file.specs.declared.entries.ExemptEntry.{ExemptEntry}
 use Rattle.network_file.specs.declared.entries.FaultEntry.{FaultEntry}
+use Rattle.network_file.specs.declared.entries.IntervalEntry.{IntervalEntry}
 use Rattle.network_file.specs.declared.entries.LineEntry.{LineEntry}
 use Rattle.network_file.specs.declared.entries.RelayEntry.{RelayEntry}
 use Rattle.network_file.specs.declared.fault.NetFault.{NetFault}
 use Rattle.network_file.specs.declared.fault.Place.{Place}
-use Rattle.network_file.specs.Entries.{line_entry, fault_entry, exempt_entry}
+use Rattle.network_file.specs.Entries.{line_entry, fault_entry, exempt_entry, interval_entry}
 use Rattle.network_file.specs.Fault.{◌>>=◌, fault_in, each_after}
 use Rattle.network_file.specs.Tables.{within, elements_at, some_elements_at, table_or}
 use Rattle.toml.specs.Data.{Data, Members}
@@ -37,7 +38,7 @@ entry_at read place value = do
 abbrev pub entries_of : {A : Type 0} → (Place → Members → Result A NetFault) → TableName → List Data → Result (List A) NetFault
 entries_of read table elements = each_after (λ before. entry_at read (place_after table before)) [] elements
 
--- the lines, the relays, the faults and the exempt pairs
+-- the lines, the relays, the faults, the exempt pairs and the intervals
 unfoldable pub lines_at : ℕ → Members → Result (List LineEntry) NetFault
 lines_at format members = do
   elements ← some_elements_at top Line members
@@ -61,3 +62,9 @@ exempt_at format members = do
   elements ← elements_at top Exempt members
   _ ← within counted.Exempt 1024 (length elements)
   entries_of (exempt_entry format) tables.Exempt elements
+
+unfoldable pub intervals_at : ℕ → Members → Result (List IntervalEntry) NetFault
+intervals_at format members = do
+  elements ← elements_at top Interval members
+  _ ← within counted.Intervals 1024 (length elements)
+  entries_of (interval_entry format) tables.Interval elements

@@ -1,3 +1,4 @@
+pub mod Curves
 pub mod Elements
 pub mod Entries
 pub mod EntryLimits
@@ -7,6 +8,7 @@ pub mod Named
 pub mod Names
 pub mod Network
 pub mod Numbered
+pub mod Pairs
 pub mod Printed
 pub mod RelayEntries
 pub mod Rules

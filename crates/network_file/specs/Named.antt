@@ -1,29 +1,24 @@
 -- A study with names in place of numbers, as a network file tells it (ours).
-use Rattle.std.specs.Prelude.{ℕ, List, [], map, get_or}
+use Rattle.std.specs.Prelude.{List, map}
 use Rattle.coord_model.specs.StudyData.{StudyData}
 use Rattle.coord_model.specs.declared.name.Name.{Name}
 use Rattle.coord_model.specs.declared.study.Exempt.{Exempt}
 use Rattle.coord_model.specs.declared.study.Fault.{Fault}
 use Rattle.coord_model.specs.declared.study.Line.{Line}
+use Rattle.coord_model.specs.declared.study.PairInterval.{PairInterval}
 use Rattle.coord_model.specs.declared.study.Relay.{Relay}
 use Rattle.network_file.specs.declared.entries.ExemptEntry.{ExemptEntry}
 use Rattle.network_file.specs.declared.entries.FaultEntry.{FaultEntry}
+use Rattle.network_file.specs.declared.entries.IntervalEntry.{IntervalEntry}
 use Rattle.network_file.specs.declared.entries.LineEntry.{LineEntry}
 use Rattle.network_file.specs.declared.entries.RelayEntry.{RelayEntry}
-use Rattle.network_file.specs.Study.{line_names, relay_names}
+use Rattle.network_file.specs.Names.{named, line_names, relay_names}
 use Rattle.network_file.specs.Told.{ToldData}
 
--- the name with this number
-abbrev pub named : List Name → ℕ → Name
-named names number = get_or names number []
-
--- a line, a relay, a fault and an exempt pair with names in place of numbers
+-- a line, a relay, a fault, an exempt pair and an interval with names in place of numbers
 abbrev pub line_told : List Name → Line → LineEntry
-line_told buses line = record {
-  name = line.name;
-  from = named buses line.from;
-  to = named buses line.to;
-}
+line_told buses line =
+    record { name = line.name; from = named buses line.from; to = named buses line.to }
 
 abbrev pub relay_told : List Name → List Name → Relay → RelayEntry
 relay_told buses line_names relay = record {
@@ -40,6 +35,8 @@ relay_told buses line_names relay = record {
   dial_step = relay.dial_step;
   dial_count = relay.dial_count;
   load_amps = relay.load_amps;
+  least_ms = relay.least_ms;
+  most_ms = relay.most_ms;
 }
 
 abbrev pub fault_told : List Name → Fault → FaultEntry
@@ -55,9 +52,17 @@ pair_told relay_names pair = record {
   primary = named relay_names pair.primary;
 }
 
+abbrev pub interval_told : List Name → PairInterval → IntervalEntry
+interval_told relay_names own = record {
+  backup = named relay_names own.backup;
+  primary = named relay_names own.primary;
+  cti_ms = own.cti_ms;
+}
+
 -- a study with names in place of numbers
 abbrev pub told_of : StudyData → ToldData
 told_of study = record {
+  format = study.format;
   study = record {
     cti_ms = study.cti_ms;
     sense = study.sense;
@@ -68,4 +73,5 @@ told_of study = record {
   relays = map (relay_told study.buses (line_names study.lines)) study.relays;
   faults = map (fault_told (line_names study.lines)) study.faults;
   exempt = map (pair_told (relay_names study.relays)) study.exempt;
+  intervals = map (interval_told (relay_names study.relays)) study.intervals;
 }

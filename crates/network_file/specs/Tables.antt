@@ -9,21 +9,23 @@ use Rattle.network_file.specs.declared.fault.NetFault.{NetFault}
 use Rattle.network_file.specs.declared.fault.NetFault.TheVariants.{TooMany}
 use Rattle.network_file.specs.declared.fault.Place.{Place}
 use Rattle.network_file.specs.Fault.{◌>>=◌, demand, fault_at, fault_in}
-use Rattle.network_file.specs.Words.{word_of}
+use Rattle.network_file.specs.Words.{has_key, word_of}
 use Rattle.toml.specs.Data.{Data, array, table, Items, no_items, item, Members, no_members, member, get_member}
 
--- the word is that of one of the keys
-abbrev pub is_word_of : List Key → List ℕ → Bool
-is_word_of keys text = list_any (λ key. bytes_eq text (word_of key)) keys
+-- the word is that of one of the keys, and the format has it
+abbrev pub is_word_of : ℕ → List Key → List ℕ → Bool
+is_word_of format keys text =
+    list_any (λ key. has_key format key && bytes_eq text (word_of key)) keys
 
--- each key of the table is one of the keys
-abbrev pub has_only : List Key → Members → Bool
-has_only keys no_members = true
-has_only keys (member text value more) = is_word_of keys text && has_only keys more
+-- each key of the table is one of the keys, and the format has it
+abbrev pub has_only : ℕ → List Key → Members → Bool
+has_only format keys no_members = true
+has_only format keys (member text value more) =
+    is_word_of format keys text && has_only format keys more
 
--- a table has no key but these
-unfoldable pub only : Place → List Key → Members → Result (Unit {0}) NetFault
-only place keys members = demand (has_only keys members) (fault_in place UnknownKey)
+-- a table has no key but these, as far as the format has them
+unfoldable pub only : ℕ → Place → List Key → Members → Result (Unit {0}) NetFault
+only format place keys members = demand (has_only format keys members) (fault_in place UnknownKey)
 
 -- there are at most as many as the limit
 unfoldable pub within : What → ℕ → ℕ → Result (Unit {0}) NetFault

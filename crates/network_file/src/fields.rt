@@ -1,8 +1,10 @@
 //! The values of a table, each read at its key.
-ghost use Rattle.std.specs.Prelude.{◌≡◌, option_map, string_bytes, IfOk};
+ghost use Rattle.std.specs.Prelude.{◌≡◌, ◌<◌, false, option_map, string_bytes, IfOk};
 ghost use Rattle.std.specs.List.{list_all};
 ghost use Rattle.std.specs.Map.{keys_of};
 ghost use Rattle.coord_model.specs.PartLimits.{IsBetween};
+ghost use Rattle.coord_model.specs.Form.{is_custom};
+ghost use Rattle.network_file.specs.Curves.{constants_at, is_custom_at, known_curve, relay_curve, KeepsCurve};
 ghost use Rattle.network_file.specs.Tables.{only, is_word_of};
 ghost use Rattle.network_file.specs.Values.{name_of, number_of, curve_of, name_at, number_at, number_or, curve_at};
 ghost use Rattle.network_file.specs.Words.{word_of};
@@ -10,7 +12,7 @@ ghost use Rattle.toml.specs.Data.{get_member};
 ghost use Rattle.toml.specs.View.{view, table_view};
 
 use crate::fault::{NetFault, Place};
-use crate::words::{curve_named, word};
+use crate::words::{curve_named, has_key, word};
 use coord_model::{CurveName, Key, Name, NetKind};
 use toml::{Table, Value};
 
@@ -22,12 +24,12 @@ pub(crate) struct Fields<'a> {
 }
 
 impl<'a> Fields<'a> {
-    /// Refuses a table that has another key than these.
+    /// Refuses a table that has another key than these, or one of them that the format lacks.
     #[tactic(auto, using(crate::proofs::KnownKeys::same_keys), unfolding(crate::specs::Tables::only))]
-    pub(crate) fn only(self, keys: &[Key]) -> Result<(), NetFault>
-        ensures { result ≡ only self.entry.place keys.now (table_view self.entry.table.now) }
+    pub(crate) fn only(self, format: u32, keys: &[Key]) -> Result<(), NetFault>
+        ensures { result ≡ only format self.entry.place keys.now (table_view self.entry.table.now) }
     {
-        if !has_only(self.table, keys) {
+        if !has_only(self.table, format, keys) {
             return Err(self.place.whole_fault(NetKind::UnknownKey));
         }
         Ok(())
@@ -75,10 +77,61 @@ impl<'a> Fields<'a> {
         }
     }
 
-    /// The curve at the key curve.
+    /// Whether the relay's curve has constants of its own, and the format has such curves.
+    pub(crate) fn is_custom(self, format: u32) -> bool
+        ensures { result ≡ is_custom_at format (table_view self.entry.table.now) }
+    {
+        match member(self.table, Key::Curve) {
+            Some(value) => value.as_str() == Some("custom") && format >= 4,
+            None => false,
+        }
+    }
+
+    /// Refuses a curve that is not there or that the format does not have.
+    #[tactic(auto, unfolding(crate::specs::Curves::known_curve))]
+    pub(crate) fn known_curve(self, format: u32) -> Result<(), NetFault>
+        ensures { result ≡ known_curve format self.entry.place (table_view self.entry.table.now) }
+    {
+        if self.is_custom(format) {
+            return Ok(());
+        }
+        let _curve = self.curve()?;
+        Ok(())
+    }
+
+    /// The relay's curve, with its constants.
+    #[tactic(auto, unfolding(crate::specs::Curves::relay_curve))]
+    pub(crate) fn relay_curve(self, format: u32) -> Result<CurveName, NetFault>
+        ensures exact { result ≡ relay_curve format self.entry.place (table_view self.entry.table.now) }
+        ensures keeps { IfOk result KeepsCurve }
+        ensures named { IfOk result (λ curve. format < 4 → is_custom curve ≡ false) }
+    {
+        if self.is_custom(format) {
+            self.constants()
+        } else {
+            self.curve()
+        }
+    }
+
+    /// The constants of a curve.
+    #[tactic(auto, unfolding(crate::specs::Curves::constants_at))]
+    fn constants(self) -> Result<CurveName, NetFault>
+        ensures exact { result ≡ constants_at self.entry.place (table_view self.entry.table.now) }
+        ensures keeps { IfOk result KeepsCurve }
+    {
+        Ok(CurveName::Custom {
+            k4: self.number(Key::CustomK, 1, 10_000_000)?,
+            c4: self.number(Key::CustomC, 0, 1_000_000)?,
+            e: self.number(Key::CustomJ, 1, 4)?,
+            h: self.number(Key::CustomH, 1, 100)?,
+        })
+    }
+
+    /// The curve of the standards at the key curve.
     #[tactic(auto, unfolding(crate::specs::Values::curve_at))]
-    pub(crate) fn curve(self) -> Result<CurveName, NetFault>
-        ensures { result ≡ curve_at self.entry.place (table_view self.entry.table.now) }
+    fn curve(self) -> Result<CurveName, NetFault>
+        ensures exact { result ≡ curve_at self.entry.place (table_view self.entry.table.now) }
+        ensures named { IfOk result (λ curve. is_custom curve ≡ false) }
     {
         match member(self.table, Key::Curve) {
             Some(value) => curve_of(value, self.place),
@@ -87,23 +140,24 @@ impl<'a> Fields<'a> {
     }
 }
 
-/// Whether each key of the table is one of the keys.
-fn has_only(table: &Table, keys: &[Key]) -> bool
-    ensures { result ≡ list_all (λ text. is_word_of keys.now (string_bytes text)) (keys_of table.now.entries) }
+/// Whether each key of the table is one of the keys, and the format has it.
+fn has_only(table: &Table, format: u32, keys: &[Key]) -> bool
+    ensures { result ≡ list_all (λ text. is_word_of format keys.now (string_bytes text)) (keys_of table.now.entries) }
 {
     for text in table.keys() {
-        if !is_word_of(keys, text.as_str()) {
+        if !is_word_of(format, keys, text.as_str()) {
             return false;
         }
     }
     true
 }
 
-/// Whether the text is the word of one of the keys.
-fn is_word_of(keys: &[Key], text: &str) -> bool
-    ensures { result ≡ is_word_of keys.now text.now }
+/// Whether the text is the word of one of the keys, and the format has it.
+fn is_word_of(format: u32, keys: &[Key], text: &str) -> bool
+    ensures { result ≡ is_word_of format keys.now text.now }
 {
-    keys.iter().any(|key| text == word(*key))
+    keys.iter()
+        .any(|key| has_key(format, *key) && text == word(*key))
 }
 
 /// The value at a key.
@@ -142,7 +196,8 @@ fn number_of(value: &Value, place: Place, key: Key, low: u32, high: u32) -> Resu
 
 #[tactic(auto, unfolding(crate::specs::Values::curve_of))]
 fn curve_of(value: &Value, place: Place) -> Result<CurveName, NetFault>
-    ensures { result ≡ curve_of place (view value.now) }
+    ensures exact { result ≡ curve_of place (view value.now) }
+    ensures named { IfOk result (λ curve. is_custom curve ≡ false) }
 {
     let Some(text) = value.as_str() else {
         return Err(place.fault(NetKind::WrongKind, Key::Curve));

@@ -12,6 +12,7 @@ mod names;
 mod network;
 mod new_table;
 mod numbered;
+mod pairs;
 mod print;
 mod study;
 mod told;

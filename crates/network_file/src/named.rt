@@ -3,14 +3,14 @@ ghost use Rattle.std.specs.Prelude.{◌≡◌, ◌<◌, map, length, [], All, If
 ghost use Rattle.coord_model.specs.Limits.{FitsStudy};
 ghost use Rattle.coord_model.specs.PartLimits.{FitsLine, FitsFault};
 ghost use Rattle.coord_model.specs.StudyData.{study_data};
-ghost use Rattle.network_file.specs.Fits.{study_with, IsPairBelow, IsRelayBelow};
-ghost use Rattle.network_file.specs.Named.{named, line_told, relay_told, fault_told, pair_told, told_of};
-ghost use Rattle.network_file.specs.Study.{line_names, relay_names};
+ghost use Rattle.network_file.specs.Fits.{study_with, IsPairBelow, IsIntervalBelow, IsRelayBelow};
+ghost use Rattle.network_file.specs.Named.{line_told, relay_told, fault_told, pair_told, interval_told, told_of};
+ghost use Rattle.network_file.specs.Names.{named, line_names, relay_names};
 ghost use Rattle.network_file.specs.Told.{told_data};
 
-use crate::entries::{ExemptEntry, FaultEntry, LineEntry, RelayEntry, StudyEntry};
+use crate::entries::{ExemptEntry, FaultEntry, IntervalEntry, LineEntry, RelayEntry, StudyEntry};
 use crate::told::Told;
-use coord_model::{Exempt, Fault, Line, Name, Relay, Study};
+use coord_model::{Exempt, Fault, Line, Name, PairInterval, Relay, Study};
 use std::alloc::{AllocError, Global};
 
 /// The name of a bus.
@@ -78,6 +78,8 @@ fn relays_told(
             dial_step: relay.dial_step,
             dial_count: relay.dial_count,
             load_amps: relay.load_amps,
+            least_ms: relay.least_ms,
+            most_ms: relay.most_ms,
         })
         .collect(alloc)
 }
@@ -119,6 +121,25 @@ fn pairs_told(
         .collect(alloc)
 }
 
+/// The intervals with their relays' names.
+fn intervals_told(
+    alloc: Global,
+    relays: &[Relay],
+    intervals: &[PairInterval],
+) -> Result<Vec<IntervalEntry>, AllocError>
+    requires { All (IsIntervalBelow (length relays.now)) intervals.now }
+    ensures { IfOk result (λ v. v.items ≡ map (interval_told (relay_names relays.now)) intervals.now) }
+{
+    intervals
+        .iter()
+        .map(|own| IntervalEntry {
+            backup: relay_name(relays, own.backup),
+            primary: relay_name(relays, own.primary),
+            cti_ms: own.cti_ms,
+        })
+        .collect(alloc)
+}
+
 /// The study with names in place of numbers.
 #[tactic(auto, using(crate::proofs::Placed::relays_below))]
 pub(crate) fn told_of(alloc: Global, study: &Study) -> Result<Told, AllocError>
@@ -126,6 +147,7 @@ pub(crate) fn told_of(alloc: Global, study: &Study) -> Result<Told, AllocError>
     ensures { IfOk result (λ told. told_data told ≡ told_of (study_data study.now)) }
 {
     Ok(Told {
+        format: study.format,
         study: StudyEntry {
             cti_ms: study.cti_ms,
             sense: study.sense,
@@ -136,5 +158,6 @@ pub(crate) fn told_of(alloc: Global, study: &Study) -> Result<Told, AllocError>
         relays: relays_told(alloc, &study.buses, &study.lines, &study.relays)?,
         faults: faults_told(alloc, &study.lines, &study.faults)?,
         exempt: pairs_told(alloc, &study.relays, &study.exempt)?,
+        intervals: intervals_told(alloc, &study.relays, &study.intervals)?,
     })
 }

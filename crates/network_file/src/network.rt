@@ -4,7 +4,7 @@ ghost use Rattle.coord_model.specs.Limits.{FitsStudy};
 ghost use Rattle.coord_model.specs.StudyData.{study_data};
 ghost use Rattle.network_file.specs.Fault.{Gives, Reads};
 ghost use Rattle.network_file.specs.Network.{text_of, document_of, network_of};
-ghost use Rattle.network_file.specs.Rules.{IsNamed};
+ghost use Rattle.network_file.specs.Rules.{IsNamed, IsInFormat};
 ghost use Rattle.toml.specs.Errors.{IsMemory};
 ghost use Rattle.toml.specs.View.{table_view};
 
@@ -26,6 +26,7 @@ pub fn read_network(alloc: Global, bytes: &[u8]) -> Result<Study, NetFault>
     ensures exact { Gives study_data result (network_of bytes.now) }
     ensures fits { IfOk result (λ study. FitsStudy (study_data study)) }
     ensures named { IfOk result (λ study. IsNamed (study_data study)) }
+    ensures in_format { IfOk result (λ study. IsInFormat (study_data study)) }
 {
     let text = text_of(bytes)?;
     let document = document_of(alloc, text)?;

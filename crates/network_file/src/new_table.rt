@@ -1,13 +1,13 @@
 //! Tables of the network file, made key by key.
 ghost use Rattle.std.specs.Prelude.{◌≡◌, pos, OnOk};
 ghost use Rattle.coord_model.specs.Name.{IsName};
-ghost use Rattle.network_file.specs.Printed.{put};
+ghost use Rattle.network_file.specs.Printed.{put, put_known, with_constants};
 ghost use Rattle.coord_model.specs.declared.kinds.Key.TheVariants.{Curve};
 ghost use Rattle.network_file.specs.Words.{word_of, curve_word};
 ghost use Rattle.toml.specs.Data.{no_members, string, integer};
 ghost use Rattle.toml.specs.View.{view, table_view};
 
-use crate::words::{curve_word, word};
+use crate::words::{curve_word, has_key, word};
 use coord_model::{CurveName, Key, Name};
 use std::alloc::{AllocError, Global};
 use std::str;
@@ -40,6 +40,21 @@ impl NewTable {
         Ok(())
     }
 
+    /// Puts a value at a key, if the format has the key.
+    pub(crate) fn put_known(
+        &mut self,
+        format: u32,
+        key: Key,
+        value: Value,
+    ) -> Result<(), AllocError>
+        ensures { OnOk result (table_view self.new.table ≡ put_known format key (view value) (table_view self.old.table)) }
+    {
+        if !has_key(format, key) {
+            return Ok(());
+        }
+        self.put(key, value)
+    }
+
     /// Puts a name at a key.
     pub(crate) fn name(&mut self, key: Key, name: Name) -> Result<(), AllocError>
         ensures put { OnOk result (table_view self.new.table ≡ put (word_of key) (string name) (table_view self.old.table)) }
@@ -62,6 +77,19 @@ impl NewTable {
     {
         let value = Value::string(self.alloc, curve_word(curve))?;
         self.put(Key::Curve, value)
+    }
+
+    /// Puts the constants of a curve that has its own, if the format has such curves.
+    pub(crate) fn constants(&mut self, format: u32, curve: CurveName) -> Result<(), AllocError>
+        ensures { OnOk result (table_view self.new.table ≡ with_constants format curve (table_view self.old.table)) }
+    {
+        let CurveName::Custom { k4, c4, e, h } = curve else {
+            return Ok(());
+        };
+        self.put_known(format, Key::CustomK, Value::from(k4))?;
+        self.put_known(format, Key::CustomC, Value::from(c4))?;
+        self.put_known(format, Key::CustomJ, Value::from(e))?;
+        self.put_known(format, Key::CustomH, Value::from(h))
     }
 
     /// The table.

@@ -1,17 +1,19 @@
 //! The names of an entry as numbers, by the rules that tie the tables together.
-ghost use Rattle.std.specs.Prelude.{◌≡◌, ◌+◌, ◌-◌, ◌*◌, ◌^◌, ◌<◌, ◌≤◌, [], ◌∷◌, ◌++◌, length, slice_get, false, IfOk};
-ghost use Rattle.coord_model.specs.PartLimits.{FitsLine, FitsRelay, FitsFault};
+ghost use Rattle.std.specs.Prelude.{◌≡◌, ◌+◌, ◌-◌, ◌*◌, ◌^◌, ◌<◌, ◌≤◌, [], ◌∷◌, ◌++◌, length, slice_get, false, IfOk, OnOk, IsTrue};
+ghost use Rattle.coord_model.specs.PartLimits.{FitsCurve, FitsLine, FitsRelay, FitsFault};
 ghost use Rattle.coord_model.specs.Pairs.{ends_at};
+ghost use Rattle.network_file.specs.Curves.{has_exponent, has_small_time, KeepsCurve};
 ghost use Rattle.network_file.specs.EntryLimits.{RelayKeeps, FaultKeeps};
 ghost use Rattle.network_file.specs.Fault.{Gives};
-ghost use Rattle.network_file.specs.Fits.{study_with, IsPairBelow};
-ghost use Rattle.network_file.specs.Study.{line_names};
-ghost use Rattle.network_file.specs.Numbered.{line_in, relay_at, is_taken, relay_in, fault_on, exempt_in};
+ghost use Rattle.network_file.specs.Fits.{study_with};
+ghost use Rattle.network_file.specs.Names.{line_names};
+ghost use Rattle.network_file.specs.Numbered.{line_in, within_curve, relay_at, is_taken, relay_in, fault_on};
 
-use crate::entries::{ExemptEntry, FaultEntry, LineEntry, RelayEntry};
+use crate::entries::{FaultEntry, LineEntry, RelayEntry};
 use crate::fault::{NetFault, Place};
 use crate::names::{Names, add_new, number_in};
-use coord_model::{Exempt, Fault, Key, Line, NetKind, Relay};
+use coord_model::{CurveForm, CurveName, Fault, Key, Line, NetKind, Relay};
+use curve_custom::CustomCurve;
 
 /// The greatest plug, in hundredths of a secondary ampere.
 const GREATEST_PLUG: u64 = 10_000;
@@ -89,11 +91,15 @@ pub(crate) fn relay_in(
     if is_taken(before, line, bus) {
         return Err(place.fault(NetKind::TwoRelaysAtEnd, Key::Bus));
     }
+    within_curve(place, entry.curve)?;
     if last(entry.plug_first, entry.plug_step, entry.plug_count) > GREATEST_PLUG {
         return Err(place.fault(NetKind::OutOfRange, Key::PlugCount));
     }
     if last(entry.dial_first, entry.dial_step, entry.dial_count) > GREATEST_DIAL {
         return Err(place.fault(NetKind::OutOfRange, Key::DialCount));
+    }
+    if entry.most_ms > 0 && entry.most_ms < entry.least_ms {
+        return Err(place.fault(NetKind::OutOfRange, Key::MostMs));
     }
     Ok(relay_at(entry, line, bus))
 }
@@ -115,6 +121,48 @@ fn is_taken(relays: &[Relay], line: u16, bus: u16) -> bool
     relays
         .iter()
         .any(|relay| relay.line == line && relay.bus == bus)
+}
+
+/// Refuses the constants of a curve that has its own if its exponent is not allowed or its time is too long.
+#[tactic(auto, using(crate::proofs::CurveFits::curve_fits), unfolding(crate::specs::Numbered::within_curve))]
+fn within_curve(place: Place, curve: CurveName) -> Result<(), NetFault>
+    requires { KeepsCurve curve }
+    ensures exact { result ≡ within_curve place curve }
+    ensures fits { OnOk result (FitsCurve curve) }
+{
+    if !has_exponent(curve) {
+        return Err(place.fault(NetKind::OutOfRange, Key::CustomH));
+    }
+    if !has_small_time(curve) {
+        return Err(place.fault(NetKind::OutOfRange, Key::CustomK));
+    }
+    Ok(())
+}
+
+/// Whether the exponent is one that a curve of its own constants may have.
+fn has_exponent(curve: CurveName) -> bool
+    requires { KeepsCurve curve }
+    ensures { result ≡ has_exponent curve }
+{
+    match curve {
+        CurveName::Custom { e, h: 1, .. } => e <= 3,
+        CurveName::Custom { e, h, .. } => 2 * e <= 3 * h,
+        _ => true,
+    }
+}
+
+/// Whether the time of a curve of its own constants is below 2^40 ns at 1.05 times pickup.
+fn has_small_time(curve: CurveName) -> bool
+    requires keeps { KeepsCurve curve }
+    requires exponent { IsTrue (has_exponent curve) }
+    ensures { result ≡ has_small_time curve }
+{
+    match curve {
+        CurveName::Custom { k4, c4, e, h } => {
+            CustomCurve::new(CurveForm { k4, c4, e, h }).is_some()
+        }
+        _ => true,
+    }
 }
 
 /// The value at the last of the steps.
@@ -142,6 +190,8 @@ fn relay_at(entry: RelayEntry, line: u16, bus: u16) -> Relay
         dial_step: entry.dial_step,
         dial_count: entry.dial_count,
         load_amps: entry.load_amps,
+        least_ms: entry.least_ms,
+        most_ms: entry.most_ms,
     }
 }
 
@@ -169,24 +219,4 @@ pub(crate) fn fault_on(
         line,
         weight: entry.weight,
     })
-}
-
-/// An exempt pair with its relays' numbers.
-#[tactic(auto, unfolding(crate::specs::Numbered::exempt_in))]
-pub(crate) fn exempt_in(
-    relay_names: &Names,
-    place: Place,
-    entry: ExemptEntry,
-) -> Result<Exempt, NetFault>
-    requires { length relay_names.now.keys ≤ 96 }
-    ensures exact { result ≡ exempt_in relay_names.now.keys place entry }
-    ensures within { IfOk result (IsPairBelow (length relay_names.now.keys)) }
-{
-    let Some(backup) = number_in(relay_names, entry.backup) else {
-        return Err(place.fault(NetKind::UnknownName, Key::Backup));
-    };
-    let Some(primary) = number_in(relay_names, entry.primary) else {
-        return Err(place.fault(NetKind::UnknownName, Key::Primary));
-    };
-    Ok(Exempt { backup, primary })
 }

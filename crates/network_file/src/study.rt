@@ -1,22 +1,23 @@
-//! What a network file tells as a study: lines, relays, faults and exempt pairs in order, by their numbers.
+//! What a network file tells as a study: its tables in order, with numbers in place of names.
 ghost use Rattle.std.specs.Prelude.{◌≡◌, ◌*◌, ◌<◌, ◌≤◌, [], ◌∷◌, length, sum_by, vec_len, All, IfOk};
 ghost use Rattle.std.specs.List.{AllPairs};
 ghost use Rattle.coord_model.specs.PartLimits.{FitsLine, FitsRelay, FitsFault};
 ghost use Rattle.coord_model.specs.Limits.{FitsStudy, StandTogether};
 ghost use Rattle.coord_model.specs.StudyData.{study_data};
-ghost use Rattle.network_file.specs.EntryLimits.{RelayKeeps, FaultKeeps};
+ghost use Rattle.network_file.specs.EntryLimits.{RelayKeeps, FaultKeeps, IntervalKeeps, ToldKeeps};
 ghost use Rattle.network_file.specs.Fault.{Gives, each_after};
-ghost use Rattle.network_file.specs.Fits.{study_with, IsPairBelow};
-ghost use Rattle.network_file.specs.Names.{buses_of};
-ghost use Rattle.network_file.specs.Study.{line_names, relay_names, next_line, next_relay, next_fault, next_exempt, study_of};
-ghost use Rattle.network_file.specs.Told.{ToldKeeps, told_data};
+ghost use Rattle.network_file.specs.Fits.{study_with, IsPairBelow, IsIntervalBelow};
+ghost use Rattle.network_file.specs.Names.{buses_of, line_names, relay_names};
+ghost use Rattle.network_file.specs.Study.{next_line, next_relay, next_fault, next_exempt, next_interval, grid_of, study_of};
+ghost use Rattle.network_file.specs.Told.{told_data};
 
-use crate::entries::{ExemptEntry, FaultEntry, LineEntry, RelayEntry};
+use crate::entries::{ExemptEntry, FaultEntry, IntervalEntry, LineEntry, RelayEntry};
 use crate::fault::NetFault;
 use crate::names::Names;
-use crate::numbered::{Grid, exempt_in, fault_on, line_in, relay_in};
+use crate::numbered::{Grid, fault_on, line_in, relay_in};
+use crate::pairs::{exempt_in, interval_in};
 use crate::told::{Told, place_after, within};
-use coord_model::{Exempt, Fault, Line, Relay, Study, TableName, What};
+use coord_model::{Exempt, Fault, Line, PairInterval, Relay, Study, TableName, What};
 use std::alloc::{AllocError, Global};
 
 /// What is told, with numbers in place of names.
@@ -26,19 +27,14 @@ pub(crate) fn study_of(alloc: Global, told: &Told) -> Result<Study, NetFault>
     ensures exact { Gives study_data result (study_of (told_data told.now)) }
     ensures fits { IfOk result (λ study. FitsStudy (study_data study)) }
 {
-    let buses = buses_of(alloc, &told.lines)?;
-    let (lines, line_names) = lines_of(alloc, &buses, &told.lines)?;
-    within(What::Buses, 64, buses.len())?;
-    let grid = Grid {
-        buses,
-        line_names,
-        lines,
-    };
+    let grid = grid_of(alloc, &told.lines)?;
     let (relays, relay_names) = relays_of(alloc, &grid, &told.relays)?;
     within(What::PickupSteps, 3_072, pickup_steps(&relays))?;
     let faults = faults_of(alloc, &grid, &told.faults)?;
     let exempt = exempt_of(alloc, &relay_names, &told.exempt)?;
+    let intervals = intervals_of(alloc, &relay_names, &told.intervals)?;
     Ok(Study {
+        format: told.format,
         cti_ms: told.study.cti_ms,
         sense: told.study.sense,
         cap: told.study.cap,
@@ -48,6 +44,28 @@ pub(crate) fn study_of(alloc: Global, told: &Told) -> Result<Study, NetFault>
         relays,
         faults,
         exempt,
+        intervals,
+    })
+}
+
+/// The lines and their buses.
+#[tactic(auto, unfolding(crate::specs::Study::grid_of))]
+fn grid_of(alloc: Global, entries: &[LineEntry]) -> Result<Grid, NetFault>
+    requires { length entries.now ≤ 64 }
+    ensures exact { Gives (λ grid. grid.lines.items) result (grid_of entries.now) }
+    ensures buses { IfOk result (λ grid. grid.buses.keys ≡ buses_of entries.now) }
+    ensures few { IfOk result (λ grid. length grid.buses.keys ≤ 64) }
+    ensures count { IfOk result (λ grid. vec_len grid.lines ≡ length entries.now) }
+    ensures named { IfOk result (λ grid. grid.line_names.keys ≡ line_names grid.lines.items) }
+    ensures fits { IfOk result (λ grid. All (FitsLine (study_with grid.buses.keys [] [])) grid.lines.items) }
+{
+    let buses = buses_of(alloc, entries)?;
+    let (lines, line_names) = lines_of(alloc, &buses, entries)?;
+    within(What::Buses, 64, buses.len())?;
+    Ok(Grid {
+        buses,
+        line_names,
+        lines,
     })
 }
 
@@ -159,4 +177,26 @@ fn exempt_of(
         exempt.push(exempt_in(relay_names, place, *entry)?)?;
     }
     Ok(exempt)
+}
+
+/// The intervals of pairs' own.
+fn intervals_of(
+    alloc: Global,
+    relay_names: &Names,
+    entries: &[IntervalEntry],
+) -> Result<Vec<PairInterval>, NetFault>
+    requires few { length entries.now ≤ 1024 }
+    requires relays { length relay_names.now.keys ≤ 96 }
+    requires keeps { All IntervalKeeps entries.now }
+    ensures exact { Gives (λ intervals. intervals.items) result (each_after (next_interval relay_names.now.keys) [] entries.now) }
+    ensures count { IfOk result (λ intervals. vec_len intervals ≡ length entries.now) }
+    ensures within { IfOk result (λ intervals. All (IsIntervalBelow (length relay_names.now.keys)) intervals.items) }
+{
+    let mut intervals = Vec::with_capacity(alloc, entries.len())?;
+    for entry in entries {
+        let place = place_after(TableName::Interval, &intervals);
+        let interval = interval_in(relay_names, place, &intervals, *entry)?;
+        intervals.push(interval)?;
+    }
+    Ok(intervals)
 }

@@ -1,14 +1,16 @@
 //! A network file as it is told: its tables in order, each read whole.
 ghost use Rattle.std.specs.Prelude.{◌≡◌, ◌+◌, ◌-◌, ◌^◌, ◌<◌, ◌≤◌, length, map, vec_len, All, IfOk, OnOk};
 ghost use Rattle.coord_model.specs.PartLimits.{IsBetween};
-ghost use Rattle.network_file.specs.EntryLimits.{StudyKeeps, RelayKeeps, FaultKeeps};
+ghost use Rattle.network_file.specs.EntryLimits.{StudyKeeps, RelaySuits, FaultKeeps, IntervalKeeps, IntervalsSuit, ToldKeeps};
 ghost use Rattle.network_file.specs.Fault.{Gives, Reads};
 ghost use Rattle.network_file.specs.Tables.{within, elements_at, some_elements_at};
-ghost use Rattle.network_file.specs.Elements.{top, place_after, entry_at, entries_of, lines_at, relays_at, faults_at, exempt_at};
-ghost use Rattle.network_file.specs.Told.{ToldKeeps, told_data, told_in, study_at};
+ghost use Rattle.network_file.specs.Elements.{top, place_after, entry_at, entries_of, lines_at, relays_at, faults_at, exempt_at, intervals_at};
+ghost use Rattle.network_file.specs.Told.{told_data, told_in, study_at};
 ghost use Rattle.toml.specs.View.{view, table_view};
 
-use crate::entries::{Entry, ExemptEntry, FaultEntry, LineEntry, RelayEntry, StudyEntry};
+use crate::entries::{
+    Entry, ExemptEntry, FaultEntry, IntervalEntry, LineEntry, RelayEntry, StudyEntry,
+};
 use crate::fault::{NetFault, Place};
 use crate::fields::{Fields, member};
 use coord_model::{Key, NetKind, TableName, What};
@@ -18,11 +20,13 @@ use toml::{Table, Value};
 /// What a network file tells, with names where a study has numbers.
 #[derive(Drop)]
 pub(crate) struct Told {
+    pub format: u32,
     pub study: StudyEntry,
     pub lines: Vec<LineEntry>,
     pub relays: Vec<RelayEntry>,
     pub faults: Vec<FaultEntry>,
     pub exempt: Vec<ExemptEntry>,
+    pub intervals: Vec<IntervalEntry>,
 }
 
 /// The top of the document.
@@ -42,26 +46,33 @@ const STUDY: Place = Place {
 pub(crate) fn told_in(alloc: Global, document: &Table) -> Result<Told, NetFault>
     ensures exact { Gives told_data result (told_in (table_view document.now)) }
     ensures keeps { IfOk result (λ told. ToldKeeps (told_data told)) }
+    ensures suits { IfOk result (λ told. IntervalsSuit (told_data told)) }
 {
     let top = Fields {
         table: document,
         place: TOP,
     };
-    let format = top.number(Key::Format, 1, 1)?;
-    top.only(&[
-        Key::Format,
-        Key::Study,
-        Key::Line,
-        Key::Relay,
-        Key::Fault,
-        Key::Exempt,
-    ])?;
+    let format = top.number(Key::Format, 1, 4)?;
+    top.only(
+        format,
+        &[
+            Key::Format,
+            Key::Study,
+            Key::Line,
+            Key::Relay,
+            Key::Fault,
+            Key::Exempt,
+            Key::Interval,
+        ],
+    )?;
     Ok(Told {
+        format,
         study: study_at(format, document)?,
         lines: lines_at(alloc, format, document)?,
         relays: relays_at(alloc, format, document)?,
         faults: faults_at(alloc, format, document)?,
         exempt: exempt_at(alloc, format, document)?,
+        intervals: intervals_at(alloc, format, document)?,
     })
 }
 
@@ -99,7 +110,7 @@ fn lines_at(alloc: Global, format: u32, document: &Table) -> Result<Vec<LineEntr
 fn relays_at(alloc: Global, format: u32, document: &Table) -> Result<Vec<RelayEntry>, NetFault>
     ensures exact { Gives (λ v. v.items) result (relays_at format (table_view document.now)) }
     ensures count { IfOk result (λ v. IsBetween 1 (vec_len v) 96) }
-    ensures keeps { IfOk result (λ v. All RelayKeeps v.items) }
+    ensures keeps { IfOk result (λ v. All (RelaySuits format) v.items) }
 {
     let elements = some_elements_at(document, Key::Relay)?;
     within(What::Relays, 96, elements.len())?;
@@ -125,6 +136,21 @@ fn exempt_at(alloc: Global, format: u32, document: &Table) -> Result<Vec<ExemptE
     let elements = elements_at(document, Key::Exempt)?;
     within(What::Exempt, 1_024, elements.len())?;
     entries_of(alloc, format, TableName::Exempt, elements)
+}
+
+#[tactic(auto, unfolding(crate::specs::Elements::intervals_at))]
+fn intervals_at(
+    alloc: Global,
+    format: u32,
+    document: &Table,
+) -> Result<Vec<IntervalEntry>, NetFault>
+    ensures exact { Gives (λ v. v.items) result (intervals_at format (table_view document.now)) }
+    ensures count { IfOk result (λ v. vec_len v ≤ 1024) }
+    ensures keeps { IfOk result (λ v. All IntervalKeeps v.items) }
+{
+    let elements = elements_at(document, Key::Interval)?;
+    within(What::Intervals, 1_024, elements.len())?;
+    entries_of(alloc, format, TableName::Interval, elements)
 }
 
 /// The elements of the array at a key of the top; none where the key isn't there.
@@ -176,7 +202,7 @@ fn entries_of<E: Entry>(
     requires { length elements.now ≤ 1024 }
     ensures exact { Gives (λ v. v.items) result (entries_of (E.entry_of format) table (map view elements.now)) }
     ensures count { IfOk result (λ v. vec_len v ≡ length elements.now) }
-    ensures keeps { IfOk result (λ v. All E.Keeps v.items) }
+    ensures keeps { IfOk result (λ v. All (E.Keeps format) v.items) }
 {
     let mut entries = Vec::with_capacity(alloc, elements.len())?;
     for element in elements {
@@ -201,7 +227,7 @@ pub(crate) fn place_after<T>(table: TableName, before: &[T]) -> Place
 #[tactic(auto, unfolding(crate::specs::Elements::entry_at))]
 fn entry_at<E: Entry>(format: u32, place: Place, element: &Value) -> Result<E, NetFault>
     ensures exact { result ≡ entry_at (E.entry_of format) place (view element.now) }
-    ensures keeps { IfOk result E.Keeps }
+    ensures keeps { IfOk result (E.Keeps format) }
 {
     let Some(table) = element.as_table() else {
         return Err(place.whole_fault(NetKind::WrongKind));

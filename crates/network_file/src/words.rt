@@ -1,6 +1,7 @@
-//! The words of keys and curves.
-ghost use Rattle.std.specs.Prelude.{◌≡◌};
-ghost use Rattle.network_file.specs.Words.{word_of, curve_named, curve_word};
+//! The words of keys and curves, and the format from which each key is there.
+ghost use Rattle.std.specs.Prelude.{◌≡◌, false, IfSome};
+ghost use Rattle.coord_model.specs.Form.{is_custom};
+ghost use Rattle.network_file.specs.Words.{word_of, has_key, curve_named, curve_word};
 
 use coord_model::{CurveName, Key};
 
@@ -15,6 +16,7 @@ pub fn word(key: Key) -> &'static str
         Key::Relay => "relay",
         Key::Fault => "fault",
         Key::Exempt => "exempt",
+        Key::Interval => "interval",
         Key::CtiMs => "cti_ms",
         Key::Sense => "sense",
         Key::Cap => "cap",
@@ -33,16 +35,35 @@ pub fn word(key: Key) -> &'static str
         Key::DialStep => "dial_step",
         Key::DialCount => "dial_count",
         Key::LoadAmps => "load_amps",
+        Key::LeastMs => "least_ms",
+        Key::MostMs => "most_ms",
+        Key::CustomK => "custom_k",
+        Key::CustomC => "custom_c",
+        Key::CustomJ => "custom_j",
+        Key::CustomH => "custom_h",
         Key::Weight => "weight",
         Key::Backup => "backup",
         Key::Primary => "primary",
     }
 }
 
-/// The curve with this name.
+/// Whether the format has the key.
+pub(crate) fn has_key(format: u32, key: Key) -> bool
+    ensures { result ≡ has_key format key }
+{
+    match key {
+        Key::LeastMs | Key::MostMs => format >= 2,
+        Key::Interval => format >= 3,
+        Key::CustomK | Key::CustomC | Key::CustomJ | Key::CustomH => format >= 4,
+        _ => true,
+    }
+}
+
+/// The curve of the standards with this name.
 #[tactic(auto, unfolding(crate::specs::Words::curve_named))]
 pub(crate) fn curve_named(name: &str) -> Option<CurveName>
-    ensures { result ≡ curve_named name.now }
+    ensures exact { result ≡ curve_named name.now }
+    ensures named { IfSome result (λ curve. is_custom curve ≡ false) }
 {
     match name {
         "iec-a" => Some(CurveName::IecA),
@@ -66,5 +87,6 @@ pub(crate) fn curve_word(curve: CurveName) -> &'static str
         CurveName::IeeeMi => "ieee-mi",
         CurveName::IeeeVi => "ieee-vi",
         CurveName::IeeeEi => "ieee-ei",
+        CurveName::Custom { .. } => "custom",
     }
 }

@@ -1,334 +1,495 @@
+//! The faults of a network file, one row for each rule.
 use super::*;
+use Key::*;
+use NetKind::*;
 
-/// Asserts that each text with its parts replaced is refused for its fault.
+/// What is changed in the network, and the fault that it makes: its kind, its table, the index there and the key.
+type Row = (
+    &'static [(&'static str, &'static str)],
+    NetKind,
+    TableName,
+    u16,
+    Option<Key>,
+);
+
+/// Asserts that the text with each row's changes is refused for the row's fault.
 fn refuses_each(
     rt: &(impl AllocGlobal + Abort),
-    cases: &[(&[(&str, &str)], NetFault)],
+    text: &str,
+    rows: &[Row],
 ) -> Result<(), AllocError> {
-    for (changes, fault) in cases {
-        let text = changed(rt, changes)?;
-        refuses(rt, &text, *fault);
+    for (changes, kind, table, index, key) in rows {
+        let text = changed(rt, text, changes)?;
+        let fault = NetFault::At {
+            kind: *kind,
+            table: *table,
+            index: *index,
+            key: *key,
+        };
+        refuses(rt, &text, fault);
     }
     Ok(())
 }
 
+/// Faults of the top, of the study, and of the elements of arrays by themselves.
+const OF_TABLES: [Row; 27] = [
+    (
+        &[("format = 3", "")],
+        Missing,
+        TableName::Top,
+        0,
+        Some(Format),
+    ),
+    (
+        &[("format = 3", "format = 5\nbus = 1")],
+        OutOfRange,
+        TableName::Top,
+        0,
+        Some(Format),
+    ),
+    (
+        &[("format = 3", "format = 2")],
+        UnknownKey,
+        TableName::Top,
+        0,
+        None,
+    ),
+    (
+        &[("study =", "# study =")],
+        Missing,
+        TableName::Top,
+        0,
+        Some(Key::Study),
+    ),
+    (
+        &[("line =", "line = [] #")],
+        Missing,
+        TableName::Top,
+        0,
+        Some(Key::Line),
+    ),
+    (
+        &[("line =", "line = [1] #")],
+        WrongKind,
+        TableName::Line,
+        1,
+        None,
+    ),
+    (
+        &[("fault =", "fault = 1 #")],
+        WrongKind,
+        TableName::Top,
+        0,
+        Some(Key::Fault),
+    ),
+    (
+        &[("interval =", "interval = [[]] #")],
+        WrongKind,
+        TableName::Interval,
+        1,
+        None,
+    ),
+    (
+        &[("cti_ms = 300", "cti_ms = 300, cti = 1")],
+        UnknownKey,
+        TableName::Study,
+        0,
+        None,
+    ),
+    (
+        &[("cti_ms = 300", "cti_ms = 10001")],
+        OutOfRange,
+        TableName::Study,
+        0,
+        Some(CtiMs),
+    ),
+    (
+        &[("from = \"A\"", "from = 1, via = 1"), ("\"C\"", "1")],
+        UnknownKey,
+        TableName::Line,
+        1,
+        None,
+    ),
+    (
+        &[("name = \"BC\", ", "")],
+        Missing,
+        TableName::Line,
+        2,
+        Some(Key::Name),
+    ),
+    (
+        &[("to = \"C\"", "to = \"C1234567890123456\"")],
+        OutOfRange,
+        TableName::Line,
+        2,
+        Some(To),
+    ),
+    (
+        &[("to = \"C\"", "to = \"C D\"")],
+        OutOfRange,
+        TableName::Line,
+        2,
+        Some(To),
+    ),
+    (
+        &[("load_amps", "amps")],
+        UnknownKey,
+        TableName::Relay,
+        1,
+        None,
+    ),
+    (
+        &[("bus = \"B\"", "")],
+        Missing,
+        TableName::Relay,
+        2,
+        Some(Bus),
+    ),
+    (
+        &[("\"iec-b\"", "1")],
+        WrongKind,
+        TableName::Relay,
+        1,
+        Some(Curve),
+    ),
+    (
+        &[("\"iec-b\"", "\"iec-d\"")],
+        UnknownCurve,
+        TableName::Relay,
+        1,
+        Some(Curve),
+    ),
+    (
+        &[("ct_secondary = 1", "ct_secondary = 2")],
+        OutOfRange,
+        TableName::Relay,
+        1,
+        Some(CtSecondary),
+    ),
+    (
+        &[("plug_count = 2", "plug_count = 65")],
+        OutOfRange,
+        TableName::Relay,
+        1,
+        Some(PlugCount),
+    ),
+    (
+        &[("dial_count = 20", "dial_count = 4001")],
+        OutOfRange,
+        TableName::Relay,
+        1,
+        Some(DialCount),
+    ),
+    (
+        &[("load_amps = 80", "load_amps = -1")],
+        OutOfRange,
+        TableName::Relay,
+        1,
+        Some(LoadAmps),
+    ),
+    (
+        &[("least_ms = 100", "least_ms = 100001")],
+        OutOfRange,
+        TableName::Relay,
+        1,
+        Some(LeastMs),
+    ),
+    (
+        &[("most_ms = 900", "most_ms = 20000001")],
+        OutOfRange,
+        TableName::Relay,
+        1,
+        Some(MostMs),
+    ),
+    (
+        &[("weight = 7", "weight = 1001")],
+        OutOfRange,
+        TableName::Fault,
+        1,
+        Some(Weight),
+    ),
+    (
+        &[(", primary = \"R1\"", "")],
+        Missing,
+        TableName::Exempt,
+        1,
+        Some(Primary),
+    ),
+    (
+        &[("cti_ms = 225", "cti_ms = 0")],
+        OutOfRange,
+        TableName::Interval,
+        1,
+        Some(CtiMs),
+    ),
+];
+
+/// The faults between tables, in the order in which they are looked for.
+const BETWEEN_TABLES: [Row; 20] = [
+    (
+        &[("\"BC\"", "\"AB\"")],
+        DoubleName,
+        TableName::Line,
+        2,
+        Some(Key::Name),
+    ),
+    (
+        &[("\"C\"", "\"B\"")],
+        LoopLine,
+        TableName::Line,
+        2,
+        Some(To),
+    ),
+    (
+        &[("\"C\"", "\"B\""), ("weight = 7", "weight = 0")],
+        OutOfRange,
+        TableName::Fault,
+        1,
+        Some(Weight),
+    ),
+    (
+        &[("name = \"R2\"", "name = \"R1\"")],
+        DoubleName,
+        TableName::Relay,
+        2,
+        Some(Key::Name),
+    ),
+    (
+        &[(
+            "[[relay]]\nname = \"R1\"\nline = \"AB\"",
+            "[[relay]]\nname = \"R1\"\nline = \"CD\"",
+        )],
+        UnknownName,
+        TableName::Relay,
+        1,
+        Some(Key::Line),
+    ),
+    (
+        &[("bus = \"B\"", "bus = \"A\"")],
+        NotAtLine,
+        TableName::Relay,
+        2,
+        Some(Bus),
+    ),
+    (
+        &[("bus = \"B\"", "bus = \"D\"")],
+        NotAtLine,
+        TableName::Relay,
+        2,
+        Some(Bus),
+    ),
+    (
+        &[("line = \"BC\"\nbus = \"B\"", "line = \"AB\"\nbus = \"A\"")],
+        TwoRelaysAtEnd,
+        TableName::Relay,
+        2,
+        Some(Bus),
+    ),
+    (
+        &[("plug_step = 90", "plug_step = 9901")],
+        OutOfRange,
+        TableName::Relay,
+        1,
+        Some(PlugCount),
+    ),
+    (
+        &[("dial_step = 60", "dial_step = 787")],
+        OutOfRange,
+        TableName::Relay,
+        1,
+        Some(DialCount),
+    ),
+    (
+        &[("most_ms = 900", "most_ms = 99")],
+        OutOfRange,
+        TableName::Relay,
+        1,
+        Some(MostMs),
+    ),
+    (
+        &[("\"F2\"", "\"F1\"")],
+        DoubleName,
+        TableName::Fault,
+        2,
+        Some(Key::Name),
+    ),
+    (
+        &[("\"F1\", line = \"BC\"", "\"F1\", line = \"R1\"")],
+        UnknownName,
+        TableName::Fault,
+        1,
+        Some(Key::Line),
+    ),
+    (
+        &[("backup = \"R2\"", "backup = \"R3\"")],
+        UnknownName,
+        TableName::Exempt,
+        1,
+        Some(Backup),
+    ),
+    (
+        &[("primary = \"R1\"", "primary = \"AB\"")],
+        UnknownName,
+        TableName::Exempt,
+        1,
+        Some(Primary),
+    ),
+    (
+        &[("backup = \"R1\"", "backup = \"R3\"")],
+        UnknownName,
+        TableName::Interval,
+        1,
+        Some(Backup),
+    ),
+    (
+        &[("primary = \"R2\"", "primary = \"R3\"")],
+        UnknownName,
+        TableName::Interval,
+        1,
+        Some(Primary),
+    ),
+    (
+        &[(
+            "225 }",
+            "225 }, { backup = \"R1\", primary = \"R2\", cti_ms = 225 }",
+        )],
+        DoubleName,
+        TableName::Interval,
+        2,
+        Some(Primary),
+    ),
+    (
+        &[("most_ms = 900", "most_ms = 99"), ("\"F2\"", "\"F1\"")],
+        OutOfRange,
+        TableName::Relay,
+        1,
+        Some(MostMs),
+    ),
+    (
+        &[
+            ("backup = \"R2\"", "backup = \"R3\""),
+            ("backup = \"R1\"", "backup = \"R3\""),
+        ],
+        UnknownName,
+        TableName::Exempt,
+        1,
+        Some(Backup),
+    ),
+];
+
 #[test]
-fn faults_of_the_top_are_named(rt: HostRuntime) -> Result<(), Fail> {
-    use Key::*;
-    use NetKind::*;
-    use TableName::{Exempt, Line, Top};
-    let cases: [(&[(&str, &str)], NetFault); 13] = [
-        (&[("format = 1\n", "")], at(Missing, Top, 0, Format)),
-        (
-            &[("format = 1", "format = \"1\"")],
-            at(WrongKind, Top, 0, Format),
-        ),
-        (
-            &[("format = 1", "format = 2")],
-            at(OutOfRange, Top, 0, Format),
-        ),
-        (
-            &[("format = 1", "format = 1\nbus = 1")],
-            in_whole(UnknownKey, Top, 0),
-        ),
-        (
-            &[("[study]\ncti_ms = 300\n", "")],
-            at(Missing, Top, 0, Key::Study),
-        ),
-        (
-            &[("[study]\ncti_ms = 300\n", "study = 1\n")],
-            at(WrongKind, Top, 0, Key::Study),
-        ),
-        (&[(LINES, "")], at(Missing, Top, 0, Key::Line)),
-        (
-            &[(LINES, ""), ("format = 1", "format = 1\nline = []")],
-            at(Missing, Top, 0, Key::Line),
-        ),
-        (
-            &[(LINES, ""), ("format = 1", "format = 1\nline = 1")],
-            at(WrongKind, Top, 0, Key::Line),
-        ),
-        (
-            &[(LINES, ""), ("format = 1", "format = 1\nline = [1]")],
-            in_whole(WrongKind, Line, 1),
-        ),
-        (
-            &[(FAULTS, ""), ("format = 1", "format = 1\nfault = 1")],
-            at(WrongKind, Top, 0, Key::Fault),
-        ),
-        (
-            &[("format = 1", "format = 1\nexempt = \"\"")],
-            at(WrongKind, Top, 0, Key::Exempt),
-        ),
-        (
-            &[("format = 1", "format = 1\nexempt = [[]]")],
-            in_whole(WrongKind, Exempt, 1),
-        ),
-    ];
-    refuses_each(&rt, &cases)?;
+fn faults_are_named(rt: HostRuntime) -> Result<(), Fail> {
+    refuses_each(&rt, TIMED, &OF_TABLES)?;
+    refuses_each(&rt, TIMED, &BETWEEN_TABLES)?;
     Ok(())
 }
 
+/// In format 1 a relay has no least and no greatest time, not even 0.
 #[test]
-fn faults_of_the_study_are_named(rt: HostRuntime) -> Result<(), Fail> {
-    use Key::*;
-    use NetKind::*;
-    use TableName::Study;
-    let cases: [(&[(&str, &str)], NetFault); 8] = [
-        (
-            &[("cti_ms = 300", "cti_ms = 300\ncti = 1")],
-            in_whole(UnknownKey, Study, 0),
-        ),
-        (&[("cti_ms = 300", "")], at(Missing, Study, 0, CtiMs)),
-        (
-            &[("cti_ms = 300", "cti_ms = 300.0")],
-            at(WrongKind, Study, 0, CtiMs),
-        ),
-        (
-            &[("cti_ms = 300", "cti_ms = 0")],
-            at(OutOfRange, Study, 0, CtiMs),
-        ),
-        (
-            &[("cti_ms = 300", "cti_ms = 10001")],
-            at(OutOfRange, Study, 0, CtiMs),
-        ),
-        (
-            &[("cti_ms = 300", "cti_ms = 300\nsense = 104")],
-            at(OutOfRange, Study, 0, Sense),
-        ),
-        (
-            &[("cti_ms = 300", "cti_ms = 300\ncap = 31")],
-            at(OutOfRange, Study, 0, Cap),
-        ),
-        (
-            &[("cti_ms = 300", "cti_ms = 300\nload_percent = 99")],
-            at(OutOfRange, Study, 0, LoadPercent),
-        ),
-    ];
-    refuses_each(&rt, &cases)?;
+fn times_are_unknown_in_format_1(rt: HostRuntime) -> Result<(), Fail> {
+    let rows: [Row; 1] = [(
+        &[("format = 3", "format = 1"), ("interval", "# interval")],
+        UnknownKey,
+        TableName::Relay,
+        1,
+        None,
+    )];
+    refuses_each(&rt, TIMED, &rows)?;
     Ok(())
 }
 
-#[test]
-fn faults_of_a_line_are_named(rt: HostRuntime) -> Result<(), Fail> {
-    use Key::*;
-    use NetKind::*;
-    use TableName::Line;
-    let cases: [(&[(&str, &str)], NetFault); 6] = [
-        (
-            &[("from = \"A\"", "from = \"A\"\nvia = 1")],
-            in_whole(UnknownKey, Line, 1),
-        ),
-        (&[("name = \"BC\"", "")], at(Missing, Line, 2, Name)),
-        (
-            &[("from = \"A\"", "from = 1")],
-            at(WrongKind, Line, 1, From),
-        ),
-        (&[("to = \"C\"", "to = \"\"")], at(OutOfRange, Line, 2, To)),
-        (
-            &[("to = \"C\"", "to = \"C12345678901234567\"")],
-            at(OutOfRange, Line, 2, To),
-        ),
-        (
-            &[("to = \"C\"", "to = \"C D\"")],
-            at(OutOfRange, Line, 2, To),
-        ),
-    ];
-    refuses_each(&rt, &cases)?;
-    Ok(())
-}
+/// Faults of the curve with constants of its own.
+const OF_CONSTANTS: [Row; 11] = [
+    // its name and its keys come with format 4
+    (
+        &[("format = 4", "format = 3")],
+        UnknownKey,
+        TableName::Relay,
+        1,
+        None,
+    ),
+    // they are no keys of a relay with another curve, or with none
+    (
+        &[("\"custom\"", "\"iec-b\"")],
+        UnknownKey,
+        TableName::Relay,
+        1,
+        None,
+    ),
+    (
+        &[("curve = \"custom\"", "")],
+        UnknownKey,
+        TableName::Relay,
+        1,
+        None,
+    ),
+    (
+        &[("dial_first = 80", "dial_first = 80\ncustom_c = 0")],
+        UnknownKey,
+        TableName::Relay,
+        2,
+        None,
+    ),
+    // all four are asked for, in their order
+    (
+        &[("custom_k = 135000\ncustom_c = 0\n", "")],
+        Missing,
+        TableName::Relay,
+        1,
+        Some(CustomK),
+    ),
+    (
+        &[("custom_h = 1\n", "")],
+        Missing,
+        TableName::Relay,
+        1,
+        Some(CustomH),
+    ),
+    (
+        &[("custom_c = 0", "custom_c = 1000001")],
+        OutOfRange,
+        TableName::Relay,
+        1,
+        Some(CustomC),
+    ),
+    (
+        &[("custom_h = 1", "custom_h = 101")],
+        OutOfRange,
+        TableName::Relay,
+        1,
+        Some(CustomH),
+    ),
+    // the power is at most 3/2 with a root, 3 without
+    (
+        &[("custom_j = 1", "custom_j = 4")],
+        OutOfRange,
+        TableName::Relay,
+        1,
+        Some(CustomH),
+    ),
+    (
+        &[
+            ("custom_j = 1", "custom_j = 4"),
+            ("custom_h = 1", "custom_h = 2"),
+        ],
+        OutOfRange,
+        TableName::Relay,
+        1,
+        Some(CustomH),
+    ),
+    // 54.9756/0.05 s at 1.05 times pickup is the first time of 2^40 ns or more; 54.9755/0.05 s is below
+    (
+        &[("custom_k = 135000", "custom_k = 549756")],
+        OutOfRange,
+        TableName::Relay,
+        1,
+        Some(CustomK),
+    ),
+];
 
 #[test]
-fn faults_of_a_relay_are_named(rt: HostRuntime) -> Result<(), Fail> {
-    use Key::*;
-    use NetKind::*;
-    use TableName::Relay;
-    let cases: [(&[(&str, &str)], NetFault); 15] = [
-        (
-            &[("load_amps = 0", "amps = 0")],
-            in_whole(UnknownKey, Relay, 1),
-        ),
-        (&[("bus = \"B\"", "")], at(Missing, Relay, 2, Bus)),
-        (
-            &[("curve = \"iec-b\"", "curve = 1")],
-            at(WrongKind, Relay, 1, Curve),
-        ),
-        (
-            &[("curve = \"iec-b\"", "curve = \"iec-d\"")],
-            at(UnknownCurve, Relay, 1, Curve),
-        ),
-        (
-            &[("ct_primary = 100", "ct_primary = 10001")],
-            at(OutOfRange, Relay, 1, CtPrimary),
-        ),
-        (
-            &[("ct_secondary = 1", "ct_secondary = 2")],
-            at(OutOfRange, Relay, 1, CtSecondary),
-        ),
-        (
-            &[("ct_secondary = 1", "ct_secondary = 6")],
-            at(OutOfRange, Relay, 1, CtSecondary),
-        ),
-        (
-            &[("plug_first = 100", "plug_first = 0")],
-            at(OutOfRange, Relay, 1, PlugFirst),
-        ),
-        (
-            &[("plug_step = 100", "plug_step = 0")],
-            at(OutOfRange, Relay, 1, PlugStep),
-        ),
-        (
-            &[("plug_count = 1", "plug_count = 65")],
-            at(OutOfRange, Relay, 1, PlugCount),
-        ),
-        (
-            &[("dial_first = 50", "dial_first = 15001")],
-            at(OutOfRange, Relay, 1, DialFirst),
-        ),
-        (
-            &[("dial_step = 50", "dial_step = 0")],
-            at(OutOfRange, Relay, 1, DialStep),
-        ),
-        (
-            &[("dial_count = 20", "dial_count = 4001")],
-            at(OutOfRange, Relay, 1, DialCount),
-        ),
-        (
-            &[("load_amps = 0", "load_amps = -1")],
-            at(OutOfRange, Relay, 1, LoadAmps),
-        ),
-        (
-            &[("load_amps = 0", "load_amps = 100001")],
-            at(OutOfRange, Relay, 1, LoadAmps),
-        ),
-    ];
-    refuses_each(&rt, &cases)?;
-    Ok(())
-}
-
-#[test]
-fn faults_of_a_fault_and_an_exempt_pair_are_named(rt: HostRuntime) -> Result<(), Fail> {
-    use Key::*;
-    use NetKind::*;
-    use TableName::{Exempt, Fault};
-    let cases: [(&[(&str, &str)], NetFault); 3] = [
-        (
-            &[("weight = 1", "share = 1")],
-            in_whole(UnknownKey, Fault, 1),
-        ),
-        (
-            &[("weight = 1", "weight = 1001")],
-            at(OutOfRange, Fault, 1, Weight),
-        ),
-        (
-            &[("format = 1", "format = 1\nexempt = [{backup = \"R1\"}]")],
-            at(Missing, Exempt, 1, Primary),
-        ),
-    ];
-    refuses_each(&rt, &cases)?;
-    Ok(())
-}
-
-#[test]
-fn faults_between_entries_are_named(rt: HostRuntime) -> Result<(), Fail> {
-    use Key::*;
-    use NetKind::*;
-    use TableName::{Exempt, Fault, Line, Relay};
-    let cases: [(&[(&str, &str)], NetFault); 13] = [
-        (
-            &[("name = \"BC\"", "name = \"AB\"")],
-            at(DoubleName, Line, 2, Name),
-        ),
-        (&[("to = \"C\"", "to = \"B\"")], at(LoopLine, Line, 2, To)),
-        (
-            &[("name = \"R2\"", "name = \"R1\"")],
-            at(DoubleName, Relay, 2, Name),
-        ),
-        (
-            &[("line = \"BC\"", "line = \"CD\"")],
-            at(UnknownName, Relay, 2, Key::Line),
-        ),
-        (
-            &[("bus = \"B\"", "bus = \"A\"")],
-            at(NotAtLine, Relay, 2, Bus),
-        ),
-        (
-            &[("bus = \"B\"", "bus = \"D\"")],
-            at(NotAtLine, Relay, 2, Bus),
-        ),
-        (
-            &[(
-                SECOND_RELAY,
-                "[[relay]]\nname = \"R2\"\nline = \"AB\"\nbus = \"A\"\n",
-            )],
-            at(TwoRelaysAtEnd, Relay, 2, Bus),
-        ),
-        (
-            &[(
-                "plug_step = 100\nplug_count = 1",
-                "plug_step = 9901\nplug_count = 2",
-            )],
-            at(OutOfRange, Relay, 1, PlugCount),
-        ),
-        (
-            &[(
-                "dial_step = 50\ndial_count = 20",
-                "dial_step = 14951\ndial_count = 2",
-            )],
-            at(OutOfRange, Relay, 1, DialCount),
-        ),
-        (
-            &[("name = \"F2\"", "name = \"F1\"")],
-            at(DoubleName, Fault, 2, Name),
-        ),
-        (
-            &[(
-                "name = \"F1\"\nline = \"BC\"",
-                "name = \"F1\"\nline = \"R1\"",
-            )],
-            at(UnknownName, Fault, 1, Key::Line),
-        ),
-        (
-            &[(
-                "format = 1",
-                "format = 1\nexempt = [{backup = \"R3\", primary = \"R4\"}]",
-            )],
-            at(UnknownName, Exempt, 1, Backup),
-        ),
-        (
-            &[(
-                "format = 1",
-                "format = 1\nexempt = [{backup = \"R1\", primary = \"AB\"}]",
-            )],
-            at(UnknownName, Exempt, 1, Primary),
-        ),
-    ];
-    refuses_each(&rt, &cases)?;
-    Ok(())
-}
-
-#[test]
-fn of_two_faults_the_earlier_is_named(rt: HostRuntime) -> Result<(), Fail> {
-    use Key::*;
-    use NetKind::*;
-    use TableName::{Fault, Line, Top};
-    let cases: [(&[(&str, &str)], NetFault); 3] = [
-        (
-            &[("format = 1", "format = 2\nbus = 1")],
-            at(OutOfRange, Top, 0, Format),
-        ),
-        (
-            &[
-                ("from = \"A\"", "from = 1\nvia = 1"),
-                ("to = \"C\"", "to = 1"),
-            ],
-            in_whole(UnknownKey, Line, 1),
-        ),
-        (
-            &[("to = \"C\"", "to = \"B\""), ("weight = 1", "weight = 0")],
-            at(OutOfRange, Fault, 1, Weight),
-        ),
-    ];
-    refuses_each(&rt, &cases)?;
+fn constants_are_refused_for_their_first_fault(rt: HostRuntime) -> Result<(), Fail> {
+    let text = changed(&rt, TIMED, &WITH_CONSTANTS)?;
+    refuses_each(&rt, &text, &OF_CONSTANTS)?;
     Ok(())
 }

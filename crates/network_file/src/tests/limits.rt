@@ -1,77 +1,85 @@
+//! How many elements an array may have, and a network.
 use super::*;
 
-/// An array with so many numbers.
-fn numbers(rt: &impl AllocGlobal, key: &str, count: u32) -> Result<String, AllocError> {
-    let mut text = format!(in rt.alloc(); "format = 1\n{key} = [")?;
+/// The start of each array, the most elements that it may have, and its elements' table.
+const LIMITS: [(&str, u32, What, TableName); 4] = [
+    ("line = [", 64, What::Lines, TableName::Line),
+    ("fault = [", 256, What::Faults, TableName::Fault),
+    ("exempt = [", 1_024, What::Exempt, TableName::Exempt),
+    ("interval = [", 1_024, What::Intervals, TableName::Interval),
+];
+
+/// The network with so many numbers in place of the elements of an array.
+fn numbers(rt: &(impl AllocGlobal + Abort), start: &str, count: u32) -> Result<String, AllocError> {
+    let mut array = String::from_str(rt.alloc(), start)?;
     for _ in 0..count {
-        text.push_str("1, ")?;
+        array.push_str("1, ")?;
     }
-    text.push_str("]")?;
-    Ok(text)
+    array.push_str("] # ")?;
+    changed(rt, TIMED, &[(start, &array)])
+}
+
+#[test]
+fn elements_are_counted(rt: HostRuntime) -> Result<(), Fail> {
+    for (start, limit, what, table) in &LIMITS {
+        let many = NetFault::TooMany {
+            what: *what,
+            limit: *limit,
+        };
+        let text = numbers(&rt, start, *limit + 1)?;
+        refuses(&rt, &text, many);
+        let wrong = NetFault::At {
+            kind: NetKind::WrongKind,
+            table: *table,
+            index: 1,
+            key: None,
+        };
+        let text = numbers(&rt, start, *limit)?;
+        refuses(&rt, &text, wrong);
+    }
+    Ok(())
 }
 
 /// A network with so many lines, each between two buses of its own, and a relay with so many pickup steps at
 /// each end.
 fn apart(rt: &impl AllocGlobal, lines: u32, steps: u32) -> Result<String, AllocError> {
     let mut text = String::from_str(rt.alloc(), "format = 1\n[study]\ncti_ms = 300\n")?;
-    for line in 0..lines {
-        let table = format!(in rt.alloc();
-            "[[line]]\nname = \"L{line}\"\nfrom = \"A{line}\"\nto = \"B{line}\"\n"
+    for n in 0..lines {
+        let tables = format!(in rt.alloc();
+            "[[line]]\nname = \"L{n}\"\nfrom = \"A{n}\"\nto = \"B{n}\"\n[[relay]]\nname = \"A{n}\"\nline = \"L{n}\"\nbus = \"A{n}\"\n{SET}{steps}\n[[relay]]\nname = \"B{n}\"\nline = \"L{n}\"\nbus = \"B{n}\"\n{SET}{steps}\n"
         )?;
-        text.push_str(&table)?;
-    }
-    for line in 0..lines {
-        for end in ["A", "B"] {
-            let table = format!(in rt.alloc();
-                "[[relay]]\nname = \"{end}{line}\"\nline = \"L{line}\"\nbus = \"{end}{line}\"\ncurve = \"ieee-ei\"\nct_primary = 400\nct_secondary = 5\nplug_first = 100\nplug_count = {steps}\ndial_first = 50\n"
-            )?;
-            text.push_str(&table)?;
-        }
+        text.push_str(&tables)?;
     }
     Ok(text)
 }
 
+/// What is set at each relay of the network.
+const SET: &str = r#"curve = "ieee-ei"
+ct_primary = 400
+ct_secondary = 5
+plug_first = 100
+dial_first = 50
+plug_count = "#;
+
+/// How many lines and pickup steps are too many, and of what.
+const TOO_MANY: [(u32, u32, What, u32); 3] = [
+    (33, 1, What::Buses, 64),
+    (49, 1, What::Relays, 96),
+    (32, 49, What::PickupSteps, 3_072),
+];
+
 #[test]
-fn counts_against_the_limits(rt: HostRuntime) -> Result<(), Fail> {
-    for (old, key, count, fault) in [
-        (LINES, "line", 65, too_many(What::Lines, 64)),
-        (
-            LINES,
-            "line",
-            64,
-            in_whole(NetKind::WrongKind, TableName::Line, 1),
-        ),
-        (FAULTS, "fault", 257, too_many(What::Faults, 256)),
-        (
-            FAULTS,
-            "fault",
-            256,
-            in_whole(NetKind::WrongKind, TableName::Fault, 1),
-        ),
-        ("", "exempt", 1_025, too_many(What::Exempt, 1_024)),
-        (
-            "",
-            "exempt",
-            1_024,
-            in_whole(NetKind::WrongKind, TableName::Exempt, 1),
-        ),
-    ] {
-        let array = numbers(&rt, key, count)?;
-        let text = changed(&rt, &[(old, ""), ("format = 1", &array)])?;
-        refuses(&rt, &text, fault);
-    }
-    for (lines, steps, fault) in [
-        (33, 1, too_many(What::Buses, 64)),
-        (49, 1, too_many(What::Relays, 96)),
-        (32, 49, too_many(What::PickupSteps, 3_072)),
-    ] {
-        let text = apart(&rt, lines, steps)?;
-        refuses(&rt, &text, fault);
+fn parts_are_counted(rt: HostRuntime) -> Result<(), Fail> {
+    for (lines, steps, what, limit) in &TOO_MANY {
+        let text = apart(&rt, *lines, *steps)?;
+        let many = NetFault::TooMany {
+            what: *what,
+            limit: *limit,
+        };
+        refuses(&rt, &text, many);
     }
     let text = apart(&rt, 32, 48)?;
-    match read_network(rt.alloc(), text.as_bytes()) {
-        Ok(study) => assert_eq!(rt; study.relays.len(), 64),
-        Err(_) => panic!(rt; "3,072 pickup steps are allowed"),
-    }
+    let study = study_of(&rt, &text);
+    assert_eq!(rt; study.relays.len(), 64);
     Ok(())
 }

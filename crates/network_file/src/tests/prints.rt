@@ -1,6 +1,116 @@
+//! Printing succeeds for studies of each format and size, and prints what it reads again.
 use super::*;
 use crate::print_network;
-use coord_model::{Exempt, Fault, Line, Relay, Study};
+
+/// Two lines in a row, a relay at the near end of each, and a fault on each.
+const ROW: &str = r#"format = 1
+study = { cti_ms = 300 }
+line = [{ name = "AB", from = "A", to = "B" }, { name = "BC", from = "B", to = "C" }]
+fault = [{ name = "F1", line = "BC" }, { name = "F2", line = "AB" }]
+
+[[relay]]
+name = "R1"
+line = "AB"
+bus = "A"
+curve = "iec-b"
+ct_primary = 100
+ct_secondary = 1
+plug_first = 100
+plug_step = 100
+plug_count = 1
+dial_first = 50
+dial_step = 50
+dial_count = 20
+
+[[relay]]
+name = "R2"
+line = "BC"
+bus = "B"
+curve = "iec-b"
+ct_primary = 100
+ct_secondary = 1
+plug_first = 100
+plug_step = 100
+plug_count = 1
+dial_first = 50
+dial_step = 50
+dial_count = 20
+"#;
+
+/// One relay with a single dial on one line, and a fault there.
+const ALONE: &str = r#"format = 1
+study = { cti_ms = 300 }
+line = [{ name = "AB", from = "A", to = "B" }]
+fault = [{ name = "F1", line = "AB" }]
+
+[[relay]]
+name = "R1"
+line = "AB"
+bus = "A"
+curve = "iec-b"
+ct_primary = 100
+ct_secondary = 1
+plug_first = 100
+plug_step = 1
+plug_count = 2
+dial_first = 50
+dial_step = 50
+dial_count = 1
+load_amps = 0
+"#;
+
+/// What is changed in these texts to make other studies of few relays.
+const CHANGES: [(&str, &[(&str, &str)]); 10] = [
+    (ROW, &[]),
+    (ROW, &[("dial_count = 20", "dial_count = 4")]),
+    (
+        ROW,
+        &[
+            ("300", "270"),
+            (", { name = \"F2\", line = \"AB\" }", ""),
+            (
+                "50\ndial_step = 50\ndial_count = 20",
+                "140\ndial_step = 140\ndial_count = 2",
+            ),
+            (
+                "50\ndial_step = 50\ndial_count = 20",
+                "140\ndial_step = 140\ndial_count = 2",
+            ),
+        ],
+    ),
+    (
+        ROW,
+        &[
+            ("300", "270"),
+            (
+                "50\ndial_step = 50\ndial_count = 20",
+                "140\ndial_step = 140\ndial_count = 3",
+            ),
+            (
+                "50\ndial_step = 50\ndial_count = 20",
+                "140\ndial_step = 140\ndial_count = 2",
+            ),
+        ],
+    ),
+    (ROW, &[("plug_count = 1", "plug_count = 2")]),
+    (ALONE, &[]),
+    (ALONE, &[("plug_step = 1", "plug_step = 100")]),
+    (
+        ALONE,
+        &[
+            ("plug_step = 1", "plug_step = 100"),
+            ("load_amps = 0", "load_amps = 500"),
+        ],
+    ),
+    (
+        ROW,
+        &[
+            ("format = 1", "format = 2"),
+            ("curve", "most_ms = 150\nleast_ms = 100\ncurve"),
+        ],
+    ),
+    (TIMED, &[]),
+];
 
 /// Three lines in a triangle, with a relay at both ends of each.
 const TRIANGLE: &str = r#"format = 1
@@ -21,7 +131,7 @@ relay = [
 fault = [{ name = "M1", line = "AB" }, { name = "M2", line = "BC" }, { name = "M3", line = "CA" }]
 "#;
 
-/// Two parallel lines and one behind them, without faults.
+/// Two parallel lines and one after them, without faults.
 const PARALLEL_LINES: &str = r#"format = 1
 study = { cti_ms = 300 }
 line = [
@@ -38,12 +148,47 @@ relay = [
 ]
 "#;
 
+/// Two parallel lines, a relay at the front of one and at the far end of the other, and a fault on each.
+const CROSSED: &str = r#"format = 1
+study = { cti_ms = 324 }
+line = [{ name = "L1", from = "A", to = "B" }, { name = "L2", from = "A", to = "B" }]
+relay = [
+    { name = "X", line = "L1", bus = "A", curve = "iec-b", ct_primary = 100, ct_secondary = 1, plug_first = 100, plug_step = 100, plug_count = 2, dial_first = 2, dial_step = 2, dial_count = 100, load_amps = 0 },
+    { name = "Y", line = "L2", bus = "B", curve = "iec-b", ct_primary = 100, ct_secondary = 1, plug_first = 100, plug_step = 100, plug_count = 2, dial_first = 2, dial_step = 2, dial_count = 100, load_amps = 0 },
+]
+fault = [{ name = "F1", line = "L1" }, { name = "F2", line = "L2" }]
+"#;
+
+/// Eight pairs of parallel lines like that.
+fn eight_pairs(rt: &impl AllocGlobal) -> Result<String, AllocError> {
+    let mut text = String::from_str(rt.alloc(), "format = 1\n[study]\ncti_ms = 324\n")?;
+    for n in 1..9 {
+        let tables = format!(in rt.alloc();
+            "[[line]]\nname = \"L{n}\"\nfrom = \"A{n}\"\nto = \"B{n}\"\n[[line]]\nname = \"M{n}\"\nfrom = \"A{n}\"\nto = \"B{n}\"\n[[relay]]\nname = \"X{n}\"\nline = \"L{n}\"\nbus = \"A{n}\"\n{FINE_DIALS}[[relay]]\nname = \"Y{n}\"\nline = \"M{n}\"\nbus = \"B{n}\"\n{FINE_DIALS}[[fault]]\nname = \"F{n}\"\nline = \"L{n}\"\n[[fault]]\nname = \"G{n}\"\nline = \"M{n}\"\n"
+        )?;
+        text.push_str(&tables)?;
+    }
+    Ok(text)
+}
+
+/// What is set at each relay of the pairs.
+const FINE_DIALS: &str = r#"curve = "iec-b"
+ct_primary = 100
+ct_secondary = 1
+plug_first = 100
+plug_step = 100
+plug_count = 2
+dial_first = 2
+dial_step = 2
+dial_count = 100
+"#;
+
 /// A star of 48 lines from one bus, with a relay at both ends of each, and 88 heavy faults.
 fn star(rt: &impl AllocGlobal) -> Result<String, AllocError> {
     let mut text = String::from_str(rt.alloc(), "format = 1\n[study]\ncti_ms = 300\n")?;
-    for line in 1..49 {
+    for n in 1..49 {
         let tables = format!(in rt.alloc();
-            "[[line]]\nname = \"K{line}\"\nfrom = \"H\"\nto = \"E{line}\"\n[[relay]]\nname = \"H{line}\"\nline = \"K{line}\"\nbus = \"H\"\n{EXTREMELY_INVERSE}[[relay]]\nname = \"W{line}\"\nline = \"K{line}\"\nbus = \"E{line}\"\n{EXTREMELY_INVERSE}"
+            "[[line]]\nname = \"K{n}\"\nfrom = \"H\"\nto = \"E{n}\"\n[[relay]]\nname = \"H{n}\"\nline = \"K{n}\"\nbus = \"H\"\n{ONE_DIAL}[[relay]]\nname = \"W{n}\"\nline = \"K{n}\"\nbus = \"E{n}\"\n{ONE_DIAL}"
         )?;
         text.push_str(&tables)?;
     }
@@ -52,7 +197,7 @@ fn star(rt: &impl AllocGlobal) -> Result<String, AllocError> {
 }
 
 /// What is set at each relay of the star.
-const EXTREMELY_INVERSE: &str = r#"curve = "iec-c"
+const ONE_DIAL: &str = r#"curve = "iec-c"
 ct_primary = 100
 ct_secondary = 1
 plug_first = 100
@@ -71,122 +216,40 @@ fn heavy_faults(rt: &impl AllocGlobal, text: &mut String) -> Result<(), AllocErr
     Ok(())
 }
 
-fn same_line(one: &Line, other: &Line) -> bool {
-    one.name == other.name && one.from == other.from && one.to == other.to
-}
-
-fn same_relay(one: &Relay, other: &Relay) -> bool {
-    one.name == other.name
-        && one.line == other.line
-        && one.bus == other.bus
-        && one.curve == other.curve
-        && one.ct_primary == other.ct_primary
-        && one.ct_secondary == other.ct_secondary
-        && one.plug_first == other.plug_first
-        && one.plug_step == other.plug_step
-        && one.plug_count == other.plug_count
-        && one.dial_first == other.dial_first
-        && one.dial_step == other.dial_step
-        && one.dial_count == other.dial_count
-        && one.load_amps == other.load_amps
-}
-
-fn same_fault(one: &Fault, other: &Fault) -> bool {
-    one.name == other.name && one.line == other.line && one.weight == other.weight
-}
-
-fn same_pair(one: &Exempt, other: &Exempt) -> bool {
-    one.backup == other.backup && one.primary == other.primary
-}
-
-/// Whether the two studies have as many of each.
-fn same_counts(one: &Study, other: &Study) -> bool {
-    one.lines.len() == other.lines.len()
-        && one.relays.len() == other.relays.len()
-        && one.faults.len() == other.faults.len()
-        && one.exempt.len() == other.exempt.len()
-}
-
-fn same_numbers(one: &Study, other: &Study) -> bool {
-    one.cti_ms == other.cti_ms
-        && one.sense == other.sense
-        && one.cap == other.cap
-        && one.load_percent == other.load_percent
-}
-
-fn same_parts(one: &Study, other: &Study) -> bool {
-    let mut lines = one.lines.iter().zip(other.lines.iter());
-    let mut relays = one.relays.iter().zip(other.relays.iter());
-    let mut faults = one.faults.iter().zip(other.faults.iter());
-    let mut pairs = one.exempt.iter().zip(other.exempt.iter());
-    one.buses.as_slice() == other.buses.as_slice()
-        && lines.all(|(one, other)| same_line(one, other))
-        && relays.all(|(one, other)| same_relay(one, other))
-        && faults.all(|(one, other)| same_fault(one, other))
-        && pairs.all(|(one, other)| same_pair(one, other))
-}
-
-/// The study of a text, printed and read again, which is the same study.
-fn read_again(rt: &(impl AllocGlobal + Abort), text: &str) -> Study {
-    let Ok(study) = read_network(rt.alloc(), text.as_bytes()) else {
-        panic!(rt; "refused: {text}");
+/// What is printed of a text's study.
+fn printed(rt: &(impl AllocGlobal + Abort), text: &[u8]) -> Vec<u8> {
+    let Ok(study) = read_network(rt.alloc(), text) else {
+        panic!(rt; "the text is refused");
     };
     let Ok(printed) = print_network(rt.alloc(), &study) else {
         panic!(rt; "memory ran out");
     };
-    let Ok(again) = read_network(rt.alloc(), &printed) else {
-        panic!(rt; "what is printed of it is refused: {text}");
-    };
-    assert!(rt;
-        same_numbers(&again, &study) && same_counts(&again, &study) && same_parts(&again, &study),
-        "{text}"
-    );
-    again
+    printed
+}
+
+/// Asserts that what is printed of the text's study is printed again of what it reads as.
+fn prints_again(rt: &(impl AllocGlobal + Abort), text: &str) {
+    let first = printed(rt, text.as_bytes());
+    let second = printed(rt, &first);
+    assert_eq!(rt; second.as_slice(), first.as_slice(), "{text}");
 }
 
 #[test]
 fn reads_what_it_prints(rt: HostRuntime) -> Result<(), Fail> {
+    for (text, changes) in &CHANGES {
+        let text = changed(&rt, text, changes)?;
+        prints_again(&rt, &text);
+    }
+    let custom = changed(&rt, TIMED, &WITH_CONSTANTS)?;
+    prints_again(&rt, &custom);
+    let rooted = changed(&rt, &custom, &[("custom_h = 1", "custom_h = 2")])?;
+    prints_again(&rt, &rooted);
+    prints_again(&rt, TRIANGLE);
+    prints_again(&rt, PARALLEL_LINES);
+    prints_again(&rt, CROSSED);
+    let pairs = eight_pairs(&rt)?;
+    prints_again(&rt, &pairs);
     let star = star(&rt)?;
-    for (text, relays) in [
-        (N1, 2),
-        (TRIANGLE, 6),
-        (PARALLEL_LINES, 5),
-        (star.as_str(), 96),
-    ] {
-        let study = read_again(&rt, text);
-        assert_eq!(rt; study.relays.len(), relays, "{text}");
-    }
-    Ok(())
-}
-
-#[test]
-fn prints_what_is_no_default(rt: HostRuntime) -> Result<(), Fail> {
-    let pair = "[[exempt]]\nbackup = \"R1\"\nprimary = \"R2\"\n";
-    let twice = format!(in rt.alloc(); "{pair}{pair}[[line]]")?;
-    let text = changed(
-        &rt,
-        &[
-            ("300", "300\nsense = 150\ncap = 10\nload_percent = 130"),
-            ("[[line]]", &twice),
-            ("weight = 1\n", "weight = 7\n"),
-            ("load_amps = 0", "load_amps = 80"),
-            ("curve = \"iec-b\"", "curve = \"ieee-vi\""),
-        ],
-    )?;
-    let study = read_again(&rt, &text);
-    assert_eq!(rt;
-        (study.sense, study.cap, study.load_percent),
-        (150, 10, 130)
-    );
-    let mut weights = Vec::new(rt.alloc());
-    for fault in &study.faults {
-        weights.push(fault.weight)?;
-    }
-    assert_eq!(rt; weights.as_slice(), [7, 1].as_slice());
-    let mut exempt = Vec::new(rt.alloc());
-    for pair in &study.exempt {
-        exempt.push((pair.backup, pair.primary))?;
-    }
-    assert_eq!(rt; exempt.as_slice(), [(0, 1), (0, 1)].as_slice());
+    prints_again(&rt, &star);
     Ok(())
 }

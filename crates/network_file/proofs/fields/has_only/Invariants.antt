@@ -7,4 +7,4 @@ use Rattle.network_file.proofs.fields.has_only.Given as goal
 -- what is left decides as the whole
 abbrev pub invariant-loop-text : goal.invariant-loop-text
 invariant-loop-text l =
-    list_all (λ text. is_word_of l.keys (string_bytes text)) l.text-iterator ≡ list_all (λ text. is_word_of l.keys (string_bytes text)) (keys_of l.table.entries)
+    list_all (λ text. is_word_of l.format l.keys (string_bytes text)) l.text-iterator ≡ list_all (λ text. is_word_of l.format l.keys (string_bytes text)) (keys_of l.table.entries)

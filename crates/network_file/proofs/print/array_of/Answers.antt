@@ -22,12 +22,12 @@ loop-entry-preserved g c =
     let values = c.loop-entry.tables.items in
     let more : take (i + 1) entries ≡ take i entries ++ x ∷ [] =
     take_more entries i x c.loop-entry-test.true ∙ ap (λ y. take i entries ++ y ∷ []) (sym c.entry-item.is) in
-    let reads : (place : Place) → entry_at (g.E.Entry.entry_of 1) place (view c.from.result) ≡ Ok x =
+    let reads : (place : Place) → entry_at (g.E.Entry.entry_of c.args.format) place (view c.from.result) ≡ Ok x =
     λ place. rw (c.from.ensures, c.in_ok-table.ensures.reads place) in
     rw c.in_ok-push.ensures.items (record {
       counted = omega (arith, c.in_ok-push.ensures.len);
       so_far = λ table. rw (map_push view values c.from.result, more)
-          (each_push (λ before. entry_at (g.E.Entry.entry_of 1) (place_after table before)) [] (map view values) (take i entries) (view c.from.result) x
+          (each_push (λ before. entry_at (g.E.Entry.entry_of c.args.format) (place_after table before)) [] (map view values) (take i entries) (view c.from.result) x
           (c.loop-entry.invariant.so_far table) (reads (place_after table (take i entries))));
       plain = plain_push 1 values c.from.result c.loop-entry.invariant.plain (rw c.from.ensures (omega (arith, c.in_ok-table.ensures.plain.nested))) (rw c.from.ensures c.in_ok-table.ensures.plain.dated);
     })

@@ -2,7 +2,8 @@ use Rattle.std.proofs.Common.{◌≡◌, [], drop, vec_len, All}
 use Rattle.coord_model.specs.PartLimits.{FitsFault}
 use Rattle.network_file.specs.Fault.{each_after}
 use Rattle.network_file.specs.Fits.{study_with}
-use Rattle.network_file.specs.Study.{fault_names, next_fault}
+use Rattle.network_file.specs.Names.{fault_names}
+use Rattle.network_file.specs.Study.{next_fault}
 use Rattle.network_file.proofs.study.faults_of.Given as goal
 
 abbrev pub invariant-loop-entry : goal.invariant-loop-entry

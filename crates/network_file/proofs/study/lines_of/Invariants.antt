@@ -2,7 +2,8 @@ use Rattle.std.proofs.Common.{◌≡◌, [], drop, vec_len, All}
 use Rattle.coord_model.specs.PartLimits.{FitsLine}
 use Rattle.network_file.specs.Fault.{each_after}
 use Rattle.network_file.specs.Fits.{study_with}
-use Rattle.network_file.specs.Study.{line_names, next_line}
+use Rattle.network_file.specs.Names.{line_names}
+use Rattle.network_file.specs.Study.{next_line}
 use Rattle.network_file.proofs.study.lines_of.Given as goal
 
 abbrev pub invariant-loop-entry : goal.invariant-loop-entry

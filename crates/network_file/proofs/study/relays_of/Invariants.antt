@@ -4,7 +4,8 @@ use Rattle.coord_model.specs.PartLimits.{FitsRelay}
 use Rattle.coord_model.specs.Limits.{StandTogether}
 use Rattle.network_file.specs.Fault.{each_after}
 use Rattle.network_file.specs.Fits.{study_with}
-use Rattle.network_file.specs.Study.{relay_names, next_relay}
+use Rattle.network_file.specs.Names.{relay_names}
+use Rattle.network_file.specs.Study.{next_relay}
 use Rattle.network_file.proofs.study.relays_of.Given as goal
 
 abbrev pub invariant-loop-entry : goal.invariant-loop-entry

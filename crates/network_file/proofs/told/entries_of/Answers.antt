@@ -32,7 +32,7 @@ loop-element-preserved g c =
       so_far = rw c.in_ok-push.ensures.items (goes_on (λ before. entry_at (g.E.Entry.entry_of c.args.format) (place_after c.args.table before)) c.loop-element.entries.items (view x)
           (map view (drop (i + 1) c.args.elements.now)) (map view (drop i c.args.elements.now)) _ c.in_ok-entry_at.field-0
           (seen_split view c.args.elements.now i x c.loop-element-test.true c.element-item.is) here c.loop-element.invariant.so_far);
-      keeps = rw c.in_ok-push.ensures.items (All-push g.E.Entry.Keeps c.loop-element.entries.items c.in_ok-entry_at.field-0 c.loop-element.invariant.keeps c.in_ok-entry_at.ensures.keeps);
+      keeps = rw c.in_ok-push.ensures.items (All-push (g.E.Entry.Keeps c.args.format) c.loop-element.entries.items c.in_ok-entry_at.field-0 c.loop-element.invariant.keeps c.in_ok-entry_at.ensures.keeps);
     }
 
 pub returns-clause-exact : goal.returns-clause-exact

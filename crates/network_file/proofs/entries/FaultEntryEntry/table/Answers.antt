@@ -10,4 +10,4 @@ returns-clause-reads c =
       c.in_ok-name.ensures.put,
       c.new-table.ensures,
     )
-    (fault_reads c.args.self.now c.name.ensures.name c.name-2.ensures.name c.requires)
+    (fault_reads c.args._format c.args.self.now c.name.ensures.name c.name-2.ensures.name c.requires)

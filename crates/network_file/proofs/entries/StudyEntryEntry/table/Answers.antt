@@ -11,4 +11,4 @@ returns-clause-reads c =
       c.in_ok-number.ensures,
       c.new-table.ensures,
     )
-    (study_reads c.args.self.now c.requires)
+    (study_reads c.args._format c.args.self.now c.requires)
