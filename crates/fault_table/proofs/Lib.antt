@@ -1,4 +1,5 @@
 pub mod FieldReads
 pub mod NoPrimaryNamed
-pub mod RowReads
+pub mod RecordReads
+pub mod TableKeeps
 pub mod TableReads

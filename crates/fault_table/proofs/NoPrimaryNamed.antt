@@ -44,17 +44,17 @@ repeated-other : (n number : ℕ) (entry : Current) (b : Bool) → (if b then Er
 repeated-other n number entry true is = cc
 repeated-other n number entry false is = cc
 
-behind-other : (study : StudyData) (earlier : List Current) (n number : ℕ) (read : Result Current TableFault)
+after-other : (study : StudyData) (earlier : List Current) (n number : ℕ) (read : Result Current TableFault)
     → ((is : read ≡ Err (NoPrimary number)) → ⊥)
     → go_on read (λ entry. if is_repeated earlier entry then Err (DoubleEntry n) else Ok entry) ≡ Err (NoPrimary number) → ⊥
-behind-other study earlier n number (Err fault) other is = other (cc)
-behind-other study earlier n number (Ok entry) other is = repeated-other n number entry (is_repeated earlier entry) is
+after-other study earlier n number (Err fault) other is = other (cc)
+after-other study earlier n number (Ok entry) other is = repeated-other n number entry (is_repeated earlier entry) is
 
 many-other : (study : StudyData) (earlier : List Current) (n number : ℕ) (fields : Fields) (b : Bool)
     → (if b then Err (TooMany 8192) else go_on (record_of study n fields) (λ entry. if is_repeated earlier entry then Err (DoubleEntry n) else Ok entry)) ≡ Err (NoPrimary number) → ⊥
 unfolding record_of
 many-other study earlier n number fields true is = cc
-many-other study earlier n number fields false is = behind-other study earlier n number (record_of study n fields) (record-other study n number (three_fields fields)) is
+many-other study earlier n number fields false is = after-other study earlier n number (record_of study n fields) (record-other study n number (three_fields fields)) is
 
 next-other : (study : StudyData) (earlier : List Current) (number : ℕ) (fields : Fields) → next_entry study earlier fields ≡ Err (NoPrimary number) → ⊥
 unfolding next_entry
@@ -66,7 +66,7 @@ turn-other : (study : StudyData) (number : ℕ) (read : Result Current TableFaul
 turn-other study number (Err fault) more now later is = now (cc)
 turn-other study number (Ok entry) more now later is = later entry is
 
-entries-other : (study : StudyData) (number : ℕ) (earlier : List Current) (rows : List Fields) → entries_from study earlier rows ≡ Err (NoPrimary number) → ⊥
+entries-other : (study : StudyData) (number : ℕ) (earlier : List Current) (records : List Fields) → entries_from study earlier records ≡ Err (NoPrimary number) → ⊥
 unfolding entries_from
 entries-other study number earlier [] is = cc
 entries-other study number earlier (fields ∷ rest) is =
@@ -85,16 +85,16 @@ fed-below study entries number is =
     chosen-below study entries number (unfed_fault study entries)
     (λ f found. omega (arith, find-below (λ f. not (list_any (feeds study f) entries)) 0 (length study.faults) f found)) is
 
-fed-named : (study : StudyData) (rows : List Fields) (number : ℕ) (read : Result (List Current) TableFault)
+fed-named : (study : StudyData) (records : List Fields) (number : ℕ) (read : Result (List Current) TableFault)
     → ((is : read ≡ Err (NoPrimary number)) → ⊥) → go_on read (fed study) ≡ Err (NoPrimary number) → number < length study.faults
-fed-named study rows number (Err fault) other is = absurd (other (cc))
-fed-named study rows number (Ok entries) other is = fed-below study entries number is
+fed-named study records number (Err fault) other is = absurd (other (cc))
+fed-named study records number (Ok entries) other is = fed-below study entries number is
 
 headed-named : (study : StudyData) (rest : List Fields) (number : ℕ) (b : Bool)
     → (if b then go_on (entries_from study [] rest) (fed study) else Err BadHeader) ≡ Err (NoPrimary number) → number < length study.faults
 headed-named study rest number true is = fed-named study rest number (entries_from study [] rest) (entries-other study number [] rest) is
 headed-named study rest number false is = absurd (cc)
 
-pub named : (study : StudyData) (rows : List Fields) (number : ℕ) → table_of study rows ≡ Err (NoPrimary number) → number < length study.faults
+pub named : (study : StudyData) (records : List Fields) (number : ℕ) → table_of study records ≡ Err (NoPrimary number) → number < length study.faults
 named study [] number is = absurd (cc)
 named study (first ∷ rest) number is = headed-named study rest number (is_header first) is

@@ -9,28 +9,28 @@ use Rattle.fault_table.specs.Entry.{Fields, next_entry}
 use Rattle.fault_table.specs.Table.{GoesOn, entries_from}
 use Rattle.fault_table.specs.declared.fault.TableFault.{TableFault}
 
--- the entries go on behind the next one
-pub entries_from-next : (study : StudyData) (earlier : List Current) (fields : Fields) (rest rows : List Fields) (entry : Current)
-    → rows ≡ fields ∷ rest → next_entry study earlier fields ≡ Ok entry → entries_from study earlier rows ≡ entries_from study (earlier ++ entry ∷ []) rest
+-- the entries go on after the next one
+pub entries_from-next : (study : StudyData) (earlier : List Current) (fields : Fields) (rest records : List Fields) (entry : Current)
+    → records ≡ fields ∷ rest → next_entry study earlier fields ≡ Ok entry → entries_from study earlier records ≡ entries_from study (earlier ++ entry ∷ []) rest
 unfolding entries_from
-entries_from-next study earlier fields rest rows entry is next = rw (is, next) refl
+entries_from-next study earlier fields rest records entry is next = rw (is, next) refl
 
 -- or end with its fault
-pub entries_from-fault : (study : StudyData) (earlier : List Current) (fields : Fields) (rest rows : List Fields) (fault : TableFault)
-    → rows ≡ fields ∷ rest → next_entry study earlier fields ≡ Err fault → entries_from study earlier rows ≡ Err fault
+pub entries_from-fault : (study : StudyData) (earlier : List Current) (fields : Fields) (rest records : List Fields) (fault : TableFault)
+    → records ≡ fields ∷ rest → next_entry study earlier fields ≡ Err fault → entries_from study earlier records ≡ Err fault
 unfolding entries_from
-entries_from-fault study earlier fields rest rows fault is next = rw (is, next) refl
+entries_from-fault study earlier fields rest records fault is next = rw (is, next) refl
 
 -- with no record left they are the earlier ones
-pub entries_from-end : (study : StudyData) (earlier : List Current) (rows : List Fields) → rows ≡ [] → entries_from study earlier rows ≡ Ok earlier
+pub entries_from-end : (study : StudyData) (earlier : List Current) (records : List Fields) → records ≡ [] → entries_from study earlier records ≡ Ok earlier
 unfolding entries_from
-entries_from-end study earlier rows is = rw is refl
+entries_from-end study earlier records is = rw is refl
 
 -- counting on from a number that fails a test
 pub find-counting : (p : ℕ → Bool) (a n m : ℕ) → n ≡ suc m → p a ≡ false → find p (range_with_len a n) ≡ find p (range_with_len (a + 1) m)
 find-counting p a n m is fails = rw (is, fails) refl
 
--- the first element that passes, behind a front in which none does
+-- the first element that passes, after a front in which none does
 pub position-first : {X : Type 0} (p : X → Bool) (xs : List X) (i : ℕ) (x : X) → i < length xs → x ≡ get_or xs i x → p x ≡ true
     → position_or_len p (take i xs) ≡ i → position p xs ≡ Some i
 position-first p xs i x within here passes none =

@@ -64,7 +64,7 @@ entry_of study n fault relay amps =
 unfoldable pub record_of : StudyData → ℕ → Fields → Result Current TableFault
 record_of study n fields = found_or (three_fields fields) (BadRecord n) (λ t. entry_of study n t.0 t.1 t.2)
 
--- the entry of the record behind the earlier ones, which it may not repeat
+-- the entry of the record after the earlier ones, which it may not repeat
 unfoldable pub next_entry : StudyData → List Current → Fields → Result Current TableFault
 next_entry study earlier fields =
     if nat_lt 8192 (length earlier + 1) then Err (TooMany 8192)

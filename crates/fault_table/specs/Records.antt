@@ -12,8 +12,8 @@ abbrev pub records_known : ℕ → State → Option (List ℕ) → List Fields
 records_known n state bytes = option_map_or (records_from default_config n state) bytes []
 
 -- the records that the reader has left, as many as n
-abbrev pub rows_left : {R : Type 0} → (R → Option (List ℕ)) → ℕ → Reader R → List Fields
-rows_left remaining n reader = records_known n (reader_state reader) (source_of remaining reader)
+abbrev pub records_left : {R : Type 0} → (R → Option (List ℕ)) → ℕ → Reader R → List Fields
+records_left remaining n reader = records_known n (reader_state reader) (source_of remaining reader)
 
 -- the reader gives the records of bytes that are known, of any length and as they are
 pub record IsReading {R : Type 0} (remaining : R → Option (List ℕ)) (reader : Reader R) : Type 0 where

@@ -1,17 +1,17 @@
 -- The currents table (ours), over the records that CSV gives for its bytes.
-use Rattle.std.specs.Prelude.{ℕ, ◌≡◌, Bool, false, suc, ◌&&◌, ◌==◌, nat_lt, not, Option, Some, None, Result, Ok, Err, List, [], ◌∷◌, ◌++◌, find, slice_get, codes, if◌then◌else◌}
+use Rattle.std.specs.Prelude.{ℕ, ◌≡◌, ◌<◌, Bool, false, suc, ◌&&◌, ◌==◌, nat_lt, not, Option, Some, None, Result, Ok, Err, List, [], ◌∷◌, ◌++◌, length, IsTrue, find, slice_get, codes, if◌then◌else◌}
 use Rattle.std.specs.List.{list_any}
 use Rattle.std.specs.Str.{bytes_eq}
 use Rattle.csv.specs.Reading.{default_config, records_from, strip_bom}
 use Rattle.csv.specs.declared.parser.State.TheVariants as state
-use Rattle.coord_model.specs.Rows.{fault_numbers, stands_on}
+use Rattle.coord_model.specs.Rows.{fault_numbers, is_primary, stands_on}
 use Rattle.coord_model.specs.StudyData.{StudyData}
 use Rattle.coord_model.specs.declared.study.Current.{Current}
 use Rattle.fault_table.specs.Entry.{Fields, go_on, next_entry, three_fields}
 use Rattle.fault_table.specs.declared.fault.TableFault.{TableFault}
 use Rattle.fault_table.specs.declared.fault.TableFault.TheVariants.{BadHeader, NoPrimary}
 
--- the entries of the records behind the earlier ones
+-- the entries of the records after the earlier ones
 unfoldable pub entries_from : StudyData → List Current → List Fields → Result (List Current) TableFault
 entries_from study earlier [] = Ok earlier
 entries_from study earlier (fields ∷ rest) = go_on (next_entry study earlier fields) (λ entry. entries_from study (earlier ++ entry ∷ []) rest)
@@ -26,6 +26,16 @@ GoesOn study earlier before after (Some entry) =
 abbrev pub feeds : StudyData → ℕ → Current → Bool
 feeds study f entry =
     (entry.fault == f) && nat_lt 0 entry.amps && stands_on (slice_get study.faults f) (slice_get study.relays entry.relay)
+
+-- each fault of the study has a primary: a relay on its line with a current at it
+abbrev pub HavePrimaries : StudyData → List Current → Type 0
+HavePrimaries study entries =
+    (f : ℕ) → f < length study.faults → (p : ℕ) × IsTrue (is_primary study entries f p)
+
+-- both entries are for one fault and relay
+pub record AreForOne (one other : Current) : Type 0 where
+  pub fault : one.fault ≡ other.fault
+  pub relay : one.relay ≡ other.relay
 
 -- the first fault at which no relay on its line has a current
 unfoldable pub unfed_fault : StudyData → List Current → Option ℕ

@@ -17,16 +17,16 @@ pub const MOST_RECORDS: u32 = 8_192;
 /// The most amperes of an entry.
 const MOST_AMPS: u32 = 100_000;
 
-/// The entry of the record behind the earlier ones.
+/// The entry of the record after the earlier ones.
 #[tactic(auto, unfolding(crate::specs::Entry::next_entry))]
 pub fn next_entry(
     study: &Study,
     earlier: &[Current],
-    row: &ByteRecord,
+    fields: &ByteRecord,
 ) -> Result<Current, TableFault>
     requires fits { FitsStudy (study_data study.now) }
     requires few { length earlier.now ≤ MOST_RECORDS }
-    ensures exact { result ≡ next_entry (study_data study.now) earlier.now (fields_of row.now) }
+    ensures exact { result ≡ next_entry (study_data study.now) earlier.now (fields_of fields.now) }
     ensures fits { IfOk result (FitsCurrent (study_data study.now)) }
     ensures room { IfOk result (λ _. length earlier.now < MOST_RECORDS) }
 {
@@ -36,7 +36,7 @@ pub fn next_entry(
             limit: MOST_RECORDS,
         });
     }
-    let entry = record_of(study, n, row)?;
+    let entry = record_of(study, n, fields)?;
     if is_repeated(earlier, &entry) {
         return Err(TableFault::DoubleEntry { n });
     }
@@ -45,12 +45,12 @@ pub fn next_entry(
 
 /// The entry of record `n`.
 #[tactic(auto, unfolding(crate::specs::Entry::record_of))]
-fn record_of(study: &Study, n: u32, row: &ByteRecord) -> Result<Current, TableFault>
+fn record_of(study: &Study, n: u32, fields: &ByteRecord) -> Result<Current, TableFault>
     requires { FitsStudy (study_data study.now) }
-    ensures exact { result ≡ record_of (study_data study.now) n (fields_of row.now) }
+    ensures exact { result ≡ record_of (study_data study.now) n (fields_of fields.now) }
     ensures fits { IfOk result (FitsCurrent (study_data study.now)) }
 {
-    let Some((fault, relay, amps)) = three_fields(row) else {
+    let Some((fault, relay, amps)) = three_fields(fields) else {
         return Err(TableFault::BadRecord { n });
     };
     entry_of(study, n, fault, relay, amps)
@@ -58,13 +58,13 @@ fn record_of(study: &Study, n: u32, row: &ByteRecord) -> Result<Current, TableFa
 
 /// The fields of a record that has three.
 #[tactic(auto, using(crate::proofs::FieldReads::three))]
-pub fn three_fields(row: &ByteRecord) -> Option<(&[u8], &[u8], &[u8])>
-    ensures { option_map (λ t. (t.0.now, t.1.now, t.2.now)) result ≡ three_fields (fields_of row.now) }
+pub fn three_fields(fields: &ByteRecord) -> Option<(&[u8], &[u8], &[u8])>
+    ensures { option_map (λ t. (t.0.now, t.1.now, t.2.now)) result ≡ three_fields (fields_of fields.now) }
 {
-    if row.get(3).is_some() {
+    if fields.get(3).is_some() {
         return None;
     }
-    Some((row.get(0)?, row.get(1)?, row.get(2)?))
+    Some((fields.get(0)?, fields.get(1)?, fields.get(2)?))
 }
 
 /// The entry of three fields.

@@ -5,7 +5,7 @@
 
 mod entry;
 mod fault;
-mod rows;
+mod records;
 mod table;
 
 pub use fault::TableFault;

@@ -4,7 +4,7 @@ use Rattle.csv.specs.Reading.{NextIs, ReadsNext, ReadRecord, default_config, is_
 use Rattle.csv.specs.declared.parser.State.{State}
 use Rattle.csv.specs.declared.reader.Reader.{Reader}
 use Rattle.fault_table.specs.Entry.{Fields}
-use Rattle.fault_table.specs.Records.{IsReading, records_known, rows_left}
+use Rattle.fault_table.specs.Records.{IsReading, records_known, records_left}
 
 -- a read that finds a record: the records are it and those of the bytes that are left
 found_next : (n : ℕ) (read : Option Read) (fields : Fields) (s : State) (rest : List ℕ)
@@ -37,12 +37,12 @@ source_pending : {R : Type 0} (remaining : R → Option (List ℕ)) (reader : Re
 source_pending remaining reader checked = rw checked refl
 
 -- what one read of a reader does to the records that it has left
-pub row_read : {R : Type 0} (remaining : R → Option (List ℕ)) (old new : Reader R) (found : Bool) (fields : Fields)
+pub record_read : {R : Type 0} (remaining : R → Option (List ℕ)) (old new : Reader R) (found : Bool) (fields : Fields)
     → IsReading remaining old → ReadRecord remaining old new found fields → is_flexible new ≡ is_flexible old → took_first new ≡ true
     → MatchBool found
-    (((n : ℕ) → rows_left remaining (suc n) old ≡ fields ∷ rows_left remaining n new) × IsReading remaining new)
-    ((n : ℕ) → rows_left remaining (suc n) old ≡ [])
-row_read remaining old new true fields reading read flexible first =
+    (((n : ℕ) → records_left remaining (suc n) old ≡ fields ∷ records_left remaining n new) × IsReading remaining new)
+    ((n : ℕ) → records_left remaining (suc n) old ≡ [])
+record_read remaining old new true fields reading read flexible first =
     let reads = subst (λ config. ReadsNext config old.state (source_of remaining old) (pending_of (remaining new.rdr) new) true fields new.state) reading.default read.0 in
     let left = source_pending remaining new read.1 in (
       λ n. rw left (found_known n old.state new.state (source_of remaining old) (pending_of (remaining new.rdr) new) fields reading.known reads).0,
@@ -54,6 +54,6 @@ row_read remaining old new true fields reading read flexible first =
         known = rw left (found_known 0 old.state new.state (source_of remaining old) (pending_of (remaining new.rdr) new) fields reading.known reads).1;
       },
     )
-row_read remaining old new false fields reading read flexible first =
+record_read remaining old new false fields reading read flexible first =
     let reads = subst (λ config. ReadsNext config old.state (source_of remaining old) (pending_of (remaining new.rdr) new) false fields new.state) reading.default read.0 in
     λ n. none_known n old.state new.state (source_of remaining old) (pending_of (remaining new.rdr) new) fields reading.known reads
