@@ -14,16 +14,15 @@ use Rattle.coord_text.proofs.Digits.{same_parts}
 use Rattle.settings_sheet.specs.RelayStops.{AreNames, RelayStop, first_lines}
 use Rattle.settings_sheet.specs.SheetData.{IsSheet, SheetData}
 use Rattle.settings_sheet.specs.SheetFaults.{StopsAt}
-use Rattle.settings_sheet.specs.SheetLines.{kind_at, relay_words, relay_words_at, settings_lines, sheet_lines, text_of}
+use Rattle.settings_sheet.specs.SheetLines.{kind_at, relay_words, relay_words_at, settings_lines, sheet_lines, text_of, head_lines}
 use Rattle.settings_sheet.specs.SheetText.{sheet_text}
-use Rattle.settings_sheet.specs.Stages.{GoesOn, HasHead, HasSettings, LacksEnd, head_lines}
+use Rattle.settings_sheet.specs.Stages.{GoesOn, HasHead, HasSettings, LacksEnd}
 use Rattle.settings_sheet.specs.declared.head.Head.{Head}
 use Rattle.settings_sheet.specs.declared.refusal.SheetKind.{SheetKind}
 use Rattle.settings_sheet.proofs.Peeled.{AreFirst, AreLines, Peeled, peel, stops_here}
 use Rattle.settings_sheet.proofs.SameSettings.{same_settings}
 use Rattle.settings_sheet.proofs.Spelled.{bound_is_line, cost_is_line, ending_is_line, format_is_line}
 use Rattle.settings_sheet.proofs.TailStops.{after_due, end_due, first_of_settings, lines_of_range, relay_due, same_head, there, words_are_line}
-use Rattle.settings_sheet.proofs.Whole.{text_lines}
 
 -- lines that follow lines
 pub split_more : (bytes left rest : List ℕ) (xs ys : List (List ℕ)) → bytes ≡ text_of xs ++ left → left ≡ text_of ys ++ rest → bytes ≡ text_of (xs ++ ys) ++ rest
@@ -188,7 +187,7 @@ module _ (study : StudyData) (fits : FitsStudy study) (bytes body left : List �
 
     -- what another sheet with this text has behind the lines before the last
     peeled : (other : SheetData) → IsSheet study other → bytes ≡ sheet_text study other → Peeled before (sheet_lines study other) left
-    peeled other is text = peel before (sheet_lines study other) left lines_before (first_before other is) (sym split ∙ text ∙ text_lines study other)
+    peeled other is text = peel before (sheet_lines study other) left lines_before (first_before other is) (sym split ∙ text)
 
     -- something follows the last line
     pub after_stops : (last line : ℕ) (kind : SheetKind) → last ≡ 5 + length (settings_lines study settings) → GoesOn left last line kind → StopsAt study bytes line kind
@@ -216,7 +215,7 @@ module _ (study : StudyData) (fits : FitsStudy study) (bytes body left : List �
     pub said_whole : left ≡ codes "end\n" → bytes ≡ sheet_text study sheet_read
     said_whole ended =
         split_more bytes left [] before (codes "end" ∷ []) split ended ∙ append-nil (text_of (before ++ codes "end" ∷ []))
-        ∙ ap text_of (sym whole) ∙ sym (text_lines study sheet_read)
+        ∙ ap text_of (sym whole)
 
     -- and of no other
     pub only_sheet : (other : SheetData) → IsSheet study other → bytes ≡ sheet_text study other → sheet_read ≡ other

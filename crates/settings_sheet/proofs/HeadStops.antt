@@ -13,8 +13,7 @@ use Rattle.coord_model.specs.declared.choice.Ending.TheVariants.{Closed, NoSetti
 use Rattle.coord_model.specs.declared.study.Relay.{Relay}
 use Rattle.settings_sheet.specs.SheetData.{BoundGoesWith, CostGoesWith, IsSheet, IsShort, SheetData}
 use Rattle.settings_sheet.specs.SheetFaults.{StopsAt}
-use Rattle.settings_sheet.specs.SheetLines.{settings_lines, sheet_lines, text_of}
-use Rattle.settings_sheet.specs.SheetText.{amount, ending_word}
+use Rattle.settings_sheet.specs.SheetLines.{settings_lines, sheet_lines, text_of, amount, ending_word}
 use Rattle.settings_sheet.specs.declared.refusal.SheetKind.TheVariants as due
 use Rattle.settings_sheet.proofs.Peeled.{stops_here}
 use Rattle.settings_sheet.proofs.Settled.{text_step}

@@ -6,7 +6,6 @@ use Rattle.settings_sheet.specs.SheetData.{IsSheet, SheetData}
 use Rattle.settings_sheet.specs.SheetFaults.{StopsAt}
 use Rattle.settings_sheet.specs.SheetLines.{kind_at, sheet_lines, text_of}
 use Rattle.settings_sheet.specs.declared.refusal.SheetKind.{SheetKind}
-use Rattle.settings_sheet.proofs.Whole.{text_lines}
 
 -- each is a line
 abbrev pub AreLines : List (List ℕ) → Type 0
@@ -46,7 +45,7 @@ pub stops_here : (study : StudyData) (bytes : List ℕ) (sheet : SheetData) → 
     → (number : ℕ) → number ≡ length before + 1 → StopsAt study bytes number kind
 stops_here study bytes sheet is before more parts left split kind due lines first longer dead number number_is = record {
   no_sheet = λ other is_other text.
-      let peeled = peel before (sheet_lines study other) left lines (first other is_other) (sym split ∙ text ∙ text_lines study other) in
+      let peeled = peel before (sheet_lines study other) left lines (first other is_other) (sym split ∙ text) in
       no_more peeled.more other is_other peeled.parts peeled.rest;
   before = before;
   left = left;

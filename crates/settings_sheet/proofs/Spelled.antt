@@ -22,8 +22,7 @@ use Rattle.coord_text.proofs.Breaks.{both_pass, same_cut, same_first_line}
 use Rattle.coord_text.proofs.Digits.{decimal-pass, fixed-pass, length-fixed}
 use Rattle.settings_sheet.specs.RelayStops.{HasNoSpace}
 use Rattle.settings_sheet.specs.SheetData.{IsShort}
-use Rattle.settings_sheet.specs.SheetLines.{relay_words}
-use Rattle.settings_sheet.specs.SheetText.{amount, ending_word}
+use Rattle.settings_sheet.specs.SheetLines.{relay_words, amount, ending_word}
 
 -- the lines without values
 pub format_is_line : IsLine (codes "coord-sheet 1")

@@ -15,9 +15,7 @@ use Rattle.coord_model.specs.declared.study.Relay.{Relay}
 use Rattle.coord_text.specs.Lines.{IsLine}
 use Rattle.settings_sheet.specs.RelayStops.{HasNamesBelow}
 use Rattle.settings_sheet.specs.SheetData.{IsSheet, IsShort, SheetData}
-use Rattle.settings_sheet.specs.SheetLines.{kind_at, relay_words, relay_words_at, settings_lines, sheet_lines}
-use Rattle.settings_sheet.specs.SheetText.{amount, ending_word}
-use Rattle.settings_sheet.specs.Stages.{head_lines}
+use Rattle.settings_sheet.specs.SheetLines.{kind_at, relay_words, relay_words_at, settings_lines, sheet_lines, amount, ending_word, head_lines}
 use Rattle.settings_sheet.specs.declared.refusal.SheetKind.TheVariants as due
 use Rattle.settings_sheet.proofs.HeadStops.{relay_fits}
 use Rattle.settings_sheet.proofs.Peeled.{AreFirst, AreLines}

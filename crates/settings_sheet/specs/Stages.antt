@@ -3,21 +3,14 @@ use Rattle.std.specs.Prelude.{◌≡◌, ◌≢◌, ◌⊎◌, ℕ, ◌+◌, Opt
 use Rattle.coord_model.specs.Allowed.{AreOnSteps}
 use Rattle.coord_model.specs.Choice.{Settings}
 use Rattle.coord_model.specs.StudyData.{StudyData}
-use Rattle.coord_model.specs.declared.choice.Ending.{Ending}
 use Rattle.settings_sheet.specs.RelayStops.{AreNames}
 use Rattle.settings_sheet.specs.SheetData.{BoundGoesWith, CostGoesWith, IsShort}
-use Rattle.settings_sheet.specs.SheetLines.{settings_lines, text_of}
-use Rattle.settings_sheet.specs.SheetText.{amount, ending_word}
+use Rattle.settings_sheet.specs.SheetLines.{head_lines, settings_lines, text_of}
 use Rattle.settings_sheet.specs.declared.head.Head.{Head}
 use Rattle.settings_sheet.specs.declared.refusal.SheetKind.{SheetKind}
 use Rattle.settings_sheet.specs.declared.refusal.SheetKind.TheVariants as due
 use Rattle.settings_sheet.specs.declared.refusal.SheetRefusal.{SheetRefusal}
 use Rattle.settings_sheet.specs.declared.refusal.SheetRefusal.TheVariants.{Fault, NoMemory}
-
--- the lines before the settings
-abbrev pub head_lines : Ending → Option ℕ → Option ℕ → List (List ℕ)
-head_lines ending cost bound =
-    codes "coord-sheet 1" ∷ (codes "ending " ++ ending_word ending) ∷ (codes "cost " ++ amount cost) ∷ (codes "bound " ++ amount bound) ∷ []
 
 -- the text begins with the lines of this head, whose numbers go with its ending
 pub record HasHead (text : List ℕ) (head : Head) (left : List ℕ) : Type 0 where

@@ -5,7 +5,7 @@
 ghost use Rattle.std.specs.Prelude.{◌≡◌, ◌≢◌, ℕ, List, ◌∷◌, ◌++◌, Option, codes, IfSome, IsNone, IsTrue};
 ghost use Rattle.coord_text.specs.Lines.{IsLine};
 ghost use Rattle.settings_sheet.specs.SheetData.{BoundGoesWith, CostGoesWith, IsShort};
-ghost use Rattle.settings_sheet.specs.SheetText.{amount, ending_word};
+ghost use Rattle.settings_sheet.specs.SheetLines.{amount, ending_word};
 
 use coord_model::Ending;
 use coord_text::{read_number, split_line};

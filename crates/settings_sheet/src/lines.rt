@@ -5,12 +5,13 @@ ghost use Rattle.coord_model.specs.Choice.{choice_data};
 ghost use Rattle.coord_model.specs.Limits.{FitsStudy};
 ghost use Rattle.coord_model.specs.PartLimits.{FitsRelay};
 ghost use Rattle.coord_model.specs.StudyData.{study_data};
-ghost use Rattle.settings_sheet.specs.SheetText.{relay_line, relay_lines};
+ghost use Rattle.settings_sheet.specs.SheetLines.{ended, relay_words};
+ghost use Rattle.settings_sheet.specs.SheetText.{relay_lines};
 
 use coord_model::{Choice, NoMemory, Relay, Study};
 use coord_text::push_fixed;
 
-/// Adds the line of each relay, with its settings. After `NoMemory` some of it stands behind the text.
+/// Adds the line of each relay, with its settings. After `NoMemory` some of it is at the end of the text.
 pub fn push_relay_lines(out: &mut Vec<u8>, study: &Study, choice: &Choice) -> Result<(), NoMemory>
     requires fits { FitsStudy (study_data study.now) }
     requires on_steps { AreOnSteps (study_data study.now) (choice_data choice.now) }
@@ -26,7 +27,7 @@ pub fn push_relay_lines(out: &mut Vec<u8>, study: &Study, choice: &Choice) -> Re
 fn push_relay_line(out: &mut Vec<u8>, relay: &Relay, pickup: u16, dial: u16) -> Result<(), NoMemory>
     requires plug { relay.now.plug_first + pickup * relay.now.plug_step < 10001 }
     requires dial { relay.now.dial_first + dial * relay.now.dial_step < 15001 }
-    ensures { OnOk result (out.new.items ≡ out.old.items ++ relay_line relay.now pickup dial) }
+    ensures { OnOk result (out.new.items ≡ out.old.items ++ ended (relay_words relay.now pickup dial)) }
 {
     let plug = relay.plug_first + u32::from(pickup) * relay.plug_step;
     let dial = relay.dial_first + u32::from(dial) * relay.dial_step;

@@ -1,12 +1,16 @@
 //! The text of a settings sheet.
-ghost use Rattle.std.specs.Prelude.{◌≡◌, ◌++◌, codes, IfOk, OnOk};
+ghost use Rattle.std.specs.Prelude.{◌≡◌, ◌++◌, codes, IfOk, IfSome, OnErr, OnOk};
+ghost use Rattle.std.specs.Option.{option_map};
+ghost use Rattle.coord_model.specs.Allowed.{AreOnSteps};
+ghost use Rattle.coord_model.specs.Choice.{choice_data};
 ghost use Rattle.coord_model.specs.Limits.{FitsStudy};
 ghost use Rattle.coord_model.specs.StudyData.{study_data};
-ghost use Rattle.settings_sheet.specs.SheetText.{IsSheet, amount, ending_word, head_text, labelled, sheet_data, sheet_text};
+ghost use Rattle.settings_sheet.specs.SheetLines.{amount, ended, ending_word, head_lines, settings_lines, text_of};
+ghost use Rattle.settings_sheet.specs.SheetText.{IsSheet, sheet_data, sheet_text};
 
 use crate::lines::push_relay_lines;
 use crate::sheet::Sheet;
-use coord_model::{Ending, NoMemory, Study};
+use coord_model::{Choice, Ending, NoMemory, Study};
 use coord_text::push_number;
 use std::alloc::Global;
 
@@ -18,16 +22,14 @@ pub fn sheet_bytes(alloc: Global, study: &Study, sheet: &Sheet) -> Result<Vec<u8
 {
     let mut out = Vec::new(alloc);
     push_head(&mut out, sheet)?;
-    if let Some(choice) = &sheet.choice {
-        push_relay_lines(&mut out, study, choice)?;
-    }
+    push_settings(&mut out, study, &sheet.choice)?;
     out.extend_from_slice(b"end\n")?;
     Ok(out)
 }
 
 /// Adds the lines that begin a sheet.
 fn push_head(out: &mut Vec<u8>, sheet: &Sheet) -> Result<(), NoMemory>
-    ensures { OnOk result (out.new.items ≡ out.old.items ++ head_text (sheet_data sheet.now)) }
+    ensures { OnOk result (out.new.items ≡ out.old.items ++ text_of (head_lines sheet.now.ending sheet.now.cost sheet.now.bound)) }
 {
     push_labelled(out, b"coord-sheet ", b"1")?;
     push_labelled(out, b"ending ", word(sheet.ending))?;
@@ -36,10 +38,22 @@ fn push_head(out: &mut Vec<u8>, sheet: &Sheet) -> Result<(), NoMemory>
     Ok(())
 }
 
+/// Adds the lines of the settings, if there are any.
+#[tactic(auto, unfolding(crate::specs::SheetText::relay_lines))]
+fn push_settings(out: &mut Vec<u8>, study: &Study, choice: &Option<Choice>) -> Result<(), NoMemory>
+    requires fits { FitsStudy (study_data study.now) }
+    requires on_steps { IfSome (option_map choice_data choice.now) (AreOnSteps (study_data study.now)) }
+    ensures { OnOk result (out.new.items ≡ out.old.items ++ text_of (settings_lines (study_data study.now) (option_map choice_data choice.now))) }
+{
+    match choice {
+        Some(choice) => push_relay_lines(out, study, choice),
+        None => Ok(()),
+    }
+}
+
 /// Adds a line with a label and a word.
-#[tactic(auto, unfolding(crate::specs::SheetText::labelled))]
 fn push_labelled(out: &mut Vec<u8>, label: &[u8], word: &[u8]) -> Result<(), NoMemory>
-    ensures { OnOk result (out.new.items ≡ out.old.items ++ labelled label.now word.now) }
+    ensures { OnOk result (out.new.items ≡ out.old.items ++ ended (label.now ++ word.now)) }
 {
     out.extend_from_slice(label)?;
     out.extend_from_slice(word)?;
@@ -48,9 +62,8 @@ fn push_labelled(out: &mut Vec<u8>, label: &[u8], word: &[u8]) -> Result<(), NoM
 }
 
 /// Adds a line with a label and a number or `none`.
-#[tactic(auto, unfolding(crate::specs::SheetText::labelled))]
 fn push_labelled_amount(out: &mut Vec<u8>, label: &[u8], n: Option<u64>) -> Result<(), NoMemory>
-    ensures { OnOk result (out.new.items ≡ out.old.items ++ labelled label.now (amount n)) }
+    ensures { OnOk result (out.new.items ≡ out.old.items ++ ended (label.now ++ amount n)) }
 {
     out.extend_from_slice(label)?;
     push_amount(out, n)?;
@@ -72,7 +85,8 @@ fn word(ending: Ending) -> &'static [u8]
 
 /// Adds a number in digits, or `none`. After `NoMemory` the text is as before.
 pub fn push_amount(out: &mut Vec<u8>, n: Option<u64>) -> Result<(), NoMemory>
-    ensures { OnOk result (out.new.items ≡ out.old.items ++ amount n) }
+    ensures added { OnOk result (out.new.items ≡ out.old.items ++ amount n) }
+    ensures unchanged { OnErr result (out.new.items ≡ out.old.items) }
 {
     match n {
         Some(n) => push_number(out, n),

@@ -1,7 +1,7 @@
 use Rattle.std.proofs.Common.{refl, sym, ◌∙◌, subst}
 use Rattle.std.specs.Prelude.{codes}
 use Rattle.settings_sheet.specs.SheetData.{BoundGoesWith}
-use Rattle.settings_sheet.specs.SheetText.{amount}
+use Rattle.settings_sheet.specs.SheetLines.{amount}
 use Rattle.settings_sheet.proofs.Spelled.{bound_is_line, same_amount, same_word}
 use Rattle.settings_sheet.proofs.elements.read_bound.Goals as goal
 

@@ -1,6 +1,6 @@
 use Rattle.std.proofs.Common.{refl, sym, ◌∙◌}
 use Rattle.std.specs.Prelude.{codes}
-use Rattle.settings_sheet.specs.SheetText.{ending_word}
+use Rattle.settings_sheet.specs.SheetLines.{ending_word}
 use Rattle.settings_sheet.proofs.Spelled.{ending_is_line, same_word}
 use Rattle.settings_sheet.proofs.elements.read_ending.Goals as goal
 
