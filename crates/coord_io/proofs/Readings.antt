@@ -1,8 +1,9 @@
 -- A file that is read in pieces.
 use Rattle.std.proofs.Common.{◌≡◌, ◌⊎◌, inl, inr, ℕ, ◌+◌, ◌<◌, ◌≤◌, List, [], ◌++◌, length, take, Option, Some, refl, sym, ap, subst, ◌∙◌, arith, length-append, length-take-le, length-drop, take_all}
 use Rattle.std.proofs.Math.Seq.{take-add}
-use Rattle.coord_io.specs.Files.{Files, held, ReadsAt, IsMissing, IsLonger}
+use Rattle.coord_io.specs.Files.{Files, held, ReadsAt, IsLonger}
 use Rattle.coord_io.specs.Goes.{Goes, Stays}
+use Rattle.coord_io.specs.Outside.{Changes, FolderState, IsMissing}
 use Rattle.coord_io.proofs.Counting.{rose_last}
 use Rattle.coord_io.proofs.Goings.{goes_on, goes_as, goes_both, goes_stays}
 
@@ -11,20 +12,20 @@ abbrev pub IsReadOf : List ℕ → List ℕ → Files → Type 0
 IsReadOf name read m = (read ≡ []) ⊎ ((bytes : List ℕ) × (held m name ≡ Some bytes) × (read ≡ take (length read) bytes))
 
 -- what is known in the course of a reading
-pub record Reading (name : List ℕ) (told now : Option Files) (before reads : ℕ) (read : List ℕ) : Type 0 where
-  pub file : Goes told now (λ m n. (n ≡ m) × IsReadOf name read m)
-  pub first : read ≡ [] → reads ≡ before
-  pub no_fall : before ≤ reads
+pub record Reading (name : List ℕ) (before now : FolderState) (read : List ℕ) : Type 0 where
+  pub file : Changes before now (λ m n. (n ≡ m) × IsReadOf name read m)
+  pub first : read ≡ [] → now.reads ≡ before.reads
+  pub no_fall : before.reads ≤ now.reads
 
-pub reading_start : (name : List ℕ) (told : Option Files) (before : ℕ) → Reading name told told before before []
-reading_start name told before = record {
-  file = goes_as (λ m n was same. (same, inl refl)) (goes_stays told);
+pub reading_start : (name : List ℕ) (before : FolderState) → Reading name before before []
+reading_start name before = record {
+  file = goes_as (λ m n was same. (same, inl refl)) (goes_stays before.files);
   first = λ _. refl;
   no_fall = omega arith;
 }
 
 -- the files stay over the whole reading
-pub reading_stays : {name : List ℕ} {told now later : Option Files} {before reads : ℕ} {read : List ℕ} → Reading name told now before reads read → Goes now later Stays → Goes told later Stays
+pub reading_stays : {name : List ℕ} {before now : FolderState} {later : Option Files} {read : List ℕ} → Reading name before now read → Goes now.files later Stays → Goes before.files later Stays
 reading_stays so_far call = goes_on (λ l m n known same. same ∙ known.0) so_far.file call
 
 -- what is read so far is the front of the file
@@ -50,9 +51,9 @@ front_more name read buffer count m known at within =
     )
 
 pub reading_more :
-    {name : List ℕ} {told now later : Option Files} {before reads after : ℕ} {read : List ℕ} (buffer : List ℕ) (count : ℕ)
-    → Reading name told now before reads read → Goes now later Stays → Goes now later (λ m _. ReadsAt name (length read) buffer count m)
-    → reads ≤ after → 0 < count → count ≤ length buffer → Reading name told later before after (read ++ take count buffer)
+    {name : List ℕ} {before now later : FolderState} {read : List ℕ} (buffer : List ℕ) (count : ℕ)
+    → Reading name before now read → Changes now later Stays → Changes now later (λ m _. ReadsAt name (length read) buffer count m)
+    → now.reads ≤ later.reads → 0 < count → count ≤ length buffer → Reading name before later (read ++ take count buffer)
 reading_more {name} {read = read} buffer count so_far stays call rises some within = record {
   file = goes_on (λ l m n known piece. (piece.0 ∙ known.0, front_more name read buffer count l known.1 (at_first name read buffer count l m known.0 piece.1) within)) so_far.file (goes_both stays call);
   first = λ none.
@@ -64,8 +65,8 @@ reading_more {name} {read = read} buffer count so_far stays call rises some with
 
 -- a reading that gets nothing into a buffer with room has the whole file
 pub reading_ends :
-    {name : List ℕ} {told now later : Option Files} {before reads : ℕ} {read : List ℕ} (buffer : List ℕ)
-    → Reading name told now before reads read → Goes now later (λ m _. ReadsAt name (length read) buffer 0 m) → 0 < length buffer → Goes told later (λ m _. held m name ≡ Some read)
+    {name : List ℕ} {before now : FolderState} {later : Option Files} {read : List ℕ} (buffer : List ℕ)
+    → Reading name before now read → Goes now.files later (λ m _. ReadsAt name (length read) buffer 0 m) → 0 < length buffer → Goes before.files later (λ m _. held m name ≡ Some read)
 reading_ends {name} {read = read} buffer so_far call room = goes_on (λ l m n known piece.
     let at = at_first name read buffer 0 l m known.0 piece in
     let front = front_of name read at.0 l known.1 at.1 in
@@ -74,9 +75,9 @@ reading_ends {name} {read = read} buffer so_far call room = goes_on (λ l m n kn
 
 -- a reading that gets more than the limit has a file that is longer
 pub reading_long :
-    {name : List ℕ} {told now later : Option Files} {before reads : ℕ} {read : List ℕ} (buffer : List ℕ) (count limit : ℕ)
-    → Reading name told now before reads read → Goes now later (λ m _. ReadsAt name (length read) buffer count m) → 0 < count → limit < length read + count
-    → Goes told later (λ m _. IsLonger m name limit)
+    {name : List ℕ} {before now : FolderState} {later : Option Files} {read : List ℕ} (buffer : List ℕ) (count limit : ℕ)
+    → Reading name before now read → Goes now.files later (λ m _. ReadsAt name (length read) buffer count m) → 0 < count → limit < length read + count
+    → Goes before.files later (λ m _. IsLonger m name limit)
 reading_long {name} {read = read} buffer count limit so_far call some more = goes_on (λ l m n known piece.
     let at = at_first name read buffer count l m known.0 piece in
     let left = length-drop (length read) at.0 in
@@ -85,9 +86,9 @@ reading_long {name} {read = read} buffer count limit so_far call some more = goe
 
 -- a reading that finds no file had read nothing
 pub reading_missing :
-    {name : List ℕ} {told now later : Option Files} {before reads after : ℕ} {read : List ℕ}
-    → Reading name told now before reads read → reads ≤ after → IsMissing name now later reads after → IsMissing name told later before after
-reading_missing {name} {told} {now} {later} {before} {reads} {after} {read} so_far rises missing = record {
+    {name : List ℕ} {before now later : FolderState} {read : List ℕ}
+    → Reading name before now read → now.reads ≤ later.reads → IsMissing name now later → IsMissing name before later
+reading_missing {name} {before} {now} {later} {read} so_far rises missing = record {
   absent = goes_on (λ l m n known none. (
     ap (λ (k : Files). held k name) (sym known.0) ∙ none.0,
     elim known.1 [
@@ -95,5 +96,5 @@ reading_missing {name} {told} {now} {later} {before} {reads} {after} {read} so_f
       | inr front ↦ let moved : held m name ≡ held l name = ap (λ (k : Files). held k name) known.0 in let is = front.1 in let no : ⊥ = cc in absurd no
     ],
   )) so_far.file missing.absent;
-  untold = λ is. rose_last before reads after so_far.no_fall (missing.untold is);
+  untold = λ is. rose_last before.reads now.reads later.reads so_far.no_fall (missing.untold is);
 }

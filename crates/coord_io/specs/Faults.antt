@@ -7,5 +7,5 @@ Rose before now = min (before + 1) (2 ^ 64 - 1) ≤ now
 
 -- the counts of a folder that tells nothing else
 pub record FolderFaults : Type 0 where
-  pub read : ℕ
-  pub write : ℕ
+  pub reads : ℕ
+  pub writes : ℕ

@@ -1,10 +1,8 @@
 -- The files of a folder (ours), and what a call does to one of them while all others stay as they are.
-use Rattle.std.specs.Prelude.{◌≡◌, ◌⊎◌, ℕ, ◌<◌, ◌≤◌, List, [], ◌++◌, length, take, drop, Option, Some, None, IsSome}
+use Rattle.std.specs.Prelude.{◌≡◌, ◌⊎◌, ℕ, ◌<◌, ◌≤◌, List, [], ◌++◌, length, take, drop, Option, Some, IsSome}
 use Rattle.std.specs.Ordering.{nat_cmp}
 use Rattle.std.specs.Cmp.Lexicographic.{slice_cmp}
 use Rattle.std.specs.FinMap.{FinMap, get, insert}
-use Rattle.coord_io.specs.Faults.{Rose}
-use Rattle.coord_io.specs.Goes.{Goes}
 
 -- files, from the bytes of a name to the bytes of the file
 abbrev pub Files : Type 0
@@ -54,12 +52,6 @@ pub record CopiesFront (bytes : List ℕ) (place : ℕ) (buffer : List ℕ) (cou
 -- there is a file of this name, and the front of the buffer holds that many of its bytes from the place on
 abbrev pub ReadsAt : List ℕ → ℕ → List ℕ → ℕ → Files → Type 0
 ReadsAt name place buffer count m = (bytes : List ℕ) × (held m name ≡ Some bytes) × CopiesFront bytes place buffer count
-
--- A read finds no file of the name. Where the files are told, none has the name and the count of reads
--- stays; where they aren't, the count rose.
-pub record IsMissing (name : List ℕ) (told later : Option Files) (before now : ℕ) : Type 0 where
-  pub absent : Goes told later (λ m _. (held m name ≡ None) × (now ≡ before))
-  pub untold : later ≡ None → Rose before now
 
 -- the file of this name has more bytes than the limit
 abbrev pub IsLonger : Files → List ℕ → ℕ → Type 0

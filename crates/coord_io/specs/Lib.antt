@@ -2,5 +2,6 @@ pub mod Faults
 pub mod Files
 pub mod Goes
 pub mod Memory
+pub mod Outside
 pub mod Refusals
 pub mod Written

@@ -6,21 +6,21 @@ use Rattle.coord_io.specs.Files.{Files}
 use Rattle.coord_io.specs.declared.mem_file.MemFile.{MemFile}
 
 -- what a folder in memory holds, and how often reading and writing failed
-pub record FolderState : Type 0 where
+pub record MemFolderData : Type 0 where
   pub files : Files
-  pub read_faults : ℕ
-  pub write_faults : ℕ
+  pub reads : ℕ
+  pub writes : ℕ
 
 -- such a state is stored as its three parts
-abbrev pub folder_code : Coded FolderState
+abbrev pub folder_code : Coded MemFolderData
 folder_code =
     code_by (Files × (ℕ × ℕ)) (coded× (code (coded_list coded_ℕ) (coded_list coded_ℕ)) (coded× coded_ℕ coded_ℕ))
-    (λ s. (s.files, (s.read_faults, s.write_faults)))
-    (λ p. record { files = p.0; read_faults = p.1.0; write_faults = p.1.1 })
+    (λ s. (s.files, (s.reads, s.writes)))
+    (λ p. record { files = p.0; reads = p.1.0; writes = p.1.1 })
     (λ _. refl)
 
 -- what a sink in memory was given, and how often writing failed
-pub record SinkState : Type 0 where
+pub record MemSinkData : Type 0 where
   pub written : List ℕ
   pub faults : ℕ
 

@@ -10,11 +10,21 @@ use std::rt::Files;
 use std::{fs, io};
 
 /// The files of the disk, by path. It tells nothing of what they hold, and counts each error.
+///
+/// The file that was read last stays open, so that its pieces are those of one file.
 #[derive(Drop)]
 pub struct DiskFolder<'a, R: Files> {
     rt: &'a R,
+    last: Option<Opened<R::File>>,
     read_faults: u64,
     write_faults: u64,
+}
+
+/// An open file with its name.
+#[derive(Drop)]
+struct Opened<F> {
+    name: String,
+    file: F,
 }
 
 impl<'a, R: Files> Model for DiskFolder<'a, R> {
@@ -22,31 +32,28 @@ impl<'a, R: Files> Model for DiskFolder<'a, R> {
 
     ghost Value = { FolderFaults };
 
-    ghost view = { λ s. record { read = s.read_faults; write = s.write_faults } };
+    ghost view = { λ s. record { reads = s.read_faults; writes = s.write_faults } };
 }
 
 impl<'a, R: Files> DiskFolder<'a, R> {
     /// The files that the runtime reaches.
     pub fn new(rt: &'a R) -> DiskFolder<'a, R>
-        ensures { result ≡ record { read = 0; write = 0 } }
+        ensures { result ≡ record { reads = 0; writes = 0 } }
     {
         DiskFolder {
             rt,
+            last: None,
             read_faults: 0,
             write_faults: 0,
         }
     }
 }
 
-impl<'a, R: Files> Folder for DiskFolder<'a, R> {
-    ghost files = { λ _. None };
-
-    ghost read_faults = { λ s. s.read };
-
-    ghost write_faults = { λ s. s.write };
+impl<'a, R: Files + AllocGlobal> Folder for DiskFolder<'a, R> {
+    ghost state = { λ s. record { files = None; reads = s.reads; writes = s.writes } };
 
     fn read_at(&mut self, name: &str, place: u64, buf: &mut [u8]) -> Result<usize, ReadFail> {
-        match read_from(self.rt, name, place, buf) {
+        match read_from(self.rt, &mut self.last, name, place, buf) {
             Ok(count) => Ok(count),
             Err(error) => {
                 raise(&mut self.read_faults);
@@ -60,6 +67,7 @@ impl<'a, R: Files> Folder for DiskFolder<'a, R> {
     }
 
     fn start(&mut self, name: &str) -> Result<(), Failed> {
+        self.last = None;
         match fs::create(self.rt, name) {
             Ok(_file) => Ok(()),
             Err(_error) => {
@@ -80,11 +88,35 @@ impl<'a, R: Files> Folder for DiskFolder<'a, R> {
     }
 }
 
-/// Reads once from that place on.
-fn read_from(rt: &impl Files, name: &str, place: u64, buf: &mut [u8]) -> io::Result<usize>
+/// Reads once from that place on. A reading from the start opens the file of that name anew.
+fn read_from<R: Files + AllocGlobal>(
+    rt: &R,
+    last: &mut Option<Opened<R::File>>,
+    name: &str,
+    place: u64,
+    buf: &mut [u8],
+) -> io::Result<usize>
     ensures { IfOk result (λ count. count ≤ length buf.old) }
 {
+    if let Some(opened) = last {
+        if place > 0 && opened.name.as_bytes() == name.as_bytes() {
+            return read_once(&mut opened.file, place, buf);
+        }
+    }
     let mut file = fs::open(rt, name)?;
+    let count = read_once(&mut file, place, buf)?;
+    // Without memory for the name the next piece opens the file again.
+    *last = match String::from_str(rt.alloc(), name) {
+        Ok(name) => Some(Opened { name, file }),
+        Err(_) => None,
+    };
+    Ok(count)
+}
+
+/// Reads once from that place of an open file on.
+fn read_once<F: Read + Seek>(file: &mut F, place: u64, buf: &mut [u8]) -> io::Result<usize>
+    ensures { IfOk result (λ count. count ≤ length buf.old) }
+{
     file.seek(SeekFrom::Start(place))?;
     file.read(buf)
 }

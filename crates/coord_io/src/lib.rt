@@ -1,7 +1,8 @@
 //! Files by name and a sink for what is printed, with counts of faults that say why a call failed.
 //!
-//! A folder may tell its files and a sink its bytes: those in memory do, the disk and standard output don't.
-//! `Failed` is answered only where the count of faults rose in that call. Nothing here interprets a byte.
+//! A contract sees a folder and a sink as their state: what they tell, and how often a call failed. Those in memory tell
+//! their files and their bytes, the disk and standard output don't. `Failed` is answered only if the count of faults rose in
+//! that call. Nothing here interprets a byte.
 #![tactic(auto)]
 
 mod counts;
@@ -27,7 +28,7 @@ pub use read::read_whole;
 pub use refusals::{Failed, ReadFail, ReadRefusal};
 pub use sink::Sink;
 pub use std_sink::StdSink;
-pub use write::{append_whole, write_whole};
+pub use write::{append_whole, put_whole, write_whole};
 
 #[cfg(test)]
 mod tests;

@@ -21,16 +21,16 @@ pub struct MemFolder {
 }
 
 impl Model for MemFolder {
-    ghost use Rattle.coord_io.specs.Memory.{files_of, folder_code, FolderState};
+    ghost use Rattle.coord_io.specs.Memory.{files_of, folder_code, MemFolderData};
 
-    ghost Value = { FolderState };
+    ghost Value = { MemFolderData };
 
     ghost coded = { folder_code };
 
     ghost view = { λ s. record {
       files = files_of s.files.items;
-      read_faults = s.read_faults;
-      write_faults = s.write_faults;
+      reads = s.read_faults;
+      writes = s.write_faults;
     } };
 }
 
@@ -40,7 +40,7 @@ impl MemFolder {
     /// Which call fails is shown by tests alone.
     pub fn new(alloc: Global, files: Vec<MemFile>, fails: Vec<Fail>) -> MemFolder
         requires { HaveDistinctNames files.items }
-        ensures { result ≡ record { files = files_of files.items; read_faults = 0; write_faults = 0 } }
+        ensures { result ≡ record { files = files_of files.items; reads = 0; writes = 0 } }
     {
         MemFolder {
             alloc,
@@ -60,11 +60,7 @@ impl MemFolder {
 }
 
 impl Folder for MemFolder {
-    ghost files = { λ s. Some s.files };
-
-    ghost read_faults = { λ s. s.read_faults };
-
-    ghost write_faults = { λ s. s.write_faults };
+    ghost state = { λ s. record { files = Some s.files; reads = s.reads; writes = s.writes } };
 
     fn read_at(&mut self, name: &str, place: u64, buf: &mut [u8]) -> Result<usize, ReadFail> {
         if is_due(&mut self.fails, CallKind::ReadAt, name) {

@@ -16,9 +16,9 @@ pub struct MemSink {
 }
 
 impl Model for MemSink {
-    ghost use Rattle.coord_io.specs.Memory.{SinkState};
+    ghost use Rattle.coord_io.specs.Memory.{MemSinkData};
 
-    ghost Value = { SinkState };
+    ghost Value = { MemSinkData };
 
     ghost view = { λ s. record { written = s.bytes.items; faults = s.faults } };
 }
@@ -46,9 +46,7 @@ impl MemSink {
 }
 
 impl Sink for MemSink {
-    ghost written = { λ s. Some s.written };
-
-    ghost faults = { λ s. s.faults };
+    ghost state = { λ s. record { written = Some s.written; faults = s.faults } };
 
     fn write(&mut self, piece: &[u8]) -> Result<usize, Failed> {
         if is_due(&mut self.fails) {

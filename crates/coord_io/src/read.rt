@@ -1,8 +1,9 @@
 //! Reading a whole file.
 ghost use Rattle.std.specs.Prelude.{◌≡◌, ℕ, ◌<◌, ◌≤◌, List, Some, length, IfOk, IsErrOf};
 ghost use Rattle.coord_io.specs.Faults.{Rose};
-ghost use Rattle.coord_io.specs.Files.{held, IsMissing, IsLonger};
-ghost use Rattle.coord_io.specs.Goes.{Goes, Stays};
+ghost use Rattle.coord_io.specs.Files.{held, IsLonger};
+ghost use Rattle.coord_io.specs.Goes.{Stays};
+ghost use Rattle.coord_io.specs.Outside.{Changes, IsMissing, Told};
 
 use crate::{Folder, ReadRefusal};
 use std::alloc::Global;
@@ -21,19 +22,17 @@ pub fn read_whole<F: Folder>(
     limit: u64,
 ) -> Result<Vec<u8>, ReadRefusal>
     ensures within { IfOk result (λ read. length read.items ≤ limit) }
-    ensures whole { IfOk result (λ read. Goes (F.files folder.old) (F.files folder.new)
-        (λ m _. held m name.now ≡ Some read.items)) }
+    ensures whole { IfOk result (λ read. Told (F.state folder.old) (F.state folder.new) (λ m. held m name.now ≡ Some read.items)) }
 
     ensures too_long { (most : ℕ) → IsErrOf result (ReadRefusal.TooLong most) →
-        (most ≡ limit) × Goes (F.files folder.old) (F.files folder.new) (λ m _. IsLonger m name.now limit) }
-    ensures missing { IsErrOf result ReadRefusal.Missing → IsMissing name.now (F.files folder.old)
-        (F.files folder.new) (F.read_faults folder.old) (F.read_faults folder.new) }
+        (most ≡ limit) × Told (F.state folder.old) (F.state folder.new) (λ m. IsLonger m name.now limit) }
+    ensures missing { IsErrOf result ReadRefusal.Missing → IsMissing name.now (F.state folder.old) (F.state folder.new) }
     ensures failed { IsErrOf result ReadRefusal.Failed →
-        Rose (F.read_faults folder.old) (F.read_faults folder.new) }
+        Rose (F.state folder.old).reads (F.state folder.new).reads }
 
-    ensures unchanged { Goes (F.files folder.old) (F.files folder.new) Stays }
-    ensures reads_counted { F.read_faults folder.old ≤ F.read_faults folder.new }
-    ensures writes_left { F.write_faults folder.new ≡ F.write_faults folder.old }
+    ensures unchanged { Changes (F.state folder.old) (F.state folder.new) Stays }
+    ensures reads_counted { (F.state folder.old).reads ≤ (F.state folder.new).reads }
+    ensures writes_left { (F.state folder.new).writes ≡ (F.state folder.old).writes }
 {
     let mut piece = [0; PIECE];
     let mut read = Vec::new(alloc);

@@ -30,9 +30,7 @@ impl<'a, R: Print> StdSink<'a, R> {
 }
 
 impl<'a, R: Print> Sink for StdSink<'a, R> {
-    ghost written = { λ _. None };
-
-    ghost faults = { λ s. s };
+    ghost state = { λ s. record { written = None; faults = s } };
 
     fn write(&mut self, piece: &[u8]) -> Result<usize, Failed> {
         match self.rt.write_some(piece) {

@@ -1,21 +1,8 @@
 //! What no clause says: that calls succeed, which planned call fails, and that a real file is read as written.
-ghost use Rattle.std.specs.Prelude.{OnOk, OnErr};
-ghost use Rattle.coord_io.specs.Files.{Becomes, StaysOrPart};
-ghost use Rattle.coord_io.specs.Goes.{Goes};
-
 use super::*;
 use coord_model::Name;
 use std::process::Abort;
 use std::{fs, test};
-
-/// Writes a whole file.
-fn put<F: Folder>(folder: &mut F, name: &str, bytes: &[u8]) -> Result<(), Failed>
-    ensures done { OnOk result (Goes (F.files folder.old) (F.files folder.new) (Becomes name.now bytes.now)) }
-    ensures part { OnErr result (Goes (F.files folder.old) (F.files folder.new) (StaysOrPart name.now bytes.now)) }
-{
-    folder.start(name)?;
-    append_whole(folder, name, bytes)
-}
 
 fn fail_at(rt: &impl Abort, call: CallKind, nth: u32) -> Fail {
     let name = Name::new(b"net").expect(rt, "a name");
@@ -37,8 +24,8 @@ fn folder_of(rt: &(impl Abort + AllocGlobal), fails: Vec<Fail>) -> Result<MemFol
 fn a_folder_in_memory_keeps_what_is_written(rt: HostRuntime) -> Result<(), test::Fail> {
     let alloc = rt.alloc();
     let mut folder = folder_of(&rt, Vec::new(alloc))?;
-    put(&mut folder, "sheet", b"ok\nend\n")?;
-    put(&mut folder, "net", b"xyz")?;
+    put_whole(&mut folder, "sheet", b"ok\nend\n")?;
+    put_whole(&mut folder, "net", b"xyz")?;
     assert_eq!(rt; folder.bytes("net"), Some(b"xyz".as_slice()));
     assert!(rt; folder.bytes("other").is_none());
 
@@ -67,7 +54,7 @@ fn the_planned_calls_fail(rt: HostRuntime) -> Result<(), test::Fail> {
     assert!(rt; matches!(folder.read_at("net", 6, &mut buf), Ok(0)));
 
     for (kept, fails) in [(b"abcdef".as_slice(), true), (b"", true), (b"xyz", false)] {
-        assert_eq!(rt; put(&mut folder, "net", b"xyz").is_err(), fails);
+        assert_eq!(rt; put_whole(&mut folder, "net", b"xyz").is_err(), fails);
         assert_eq!(rt; folder.bytes("net"), Some(kept));
     }
     Ok(())
@@ -87,11 +74,33 @@ fn a_sink_fails_at_its_first_write_alone(rt: HostRuntime) -> Result<(), test::Fa
 #[test]
 fn a_file_of_the_disk_is_read_as_written(rt: HostRuntime) -> Result<(), test::Fail> {
     let mut folder = DiskFolder::new(&rt);
-    put(&mut folder, "coord_io_sheet", b"no settings\n")?;
+    put_whole(&mut folder, "coord_io_sheet", b"no settings\n")?;
     let sheet = read_whole(rt.alloc(), &mut folder, "coord_io_sheet", 12)?;
     fs::remove_file(&rt, "coord_io_sheet")?;
     assert_eq!(rt; sheet.as_slice(), b"no settings\n".as_slice());
     let none = read_whole(rt.alloc(), &mut folder, "coord_io_sheet", 12);
     assert!(rt; matches!(none, Err(ReadRefusal::Missing)));
+    Ok(())
+}
+
+#[test]
+fn pieces_of_the_disk_are_those_of_their_file(rt: HostRuntime) -> Result<(), test::Fail> {
+    let mut folder = DiskFolder::new(&rt);
+    put_whole(&mut folder, "coord_io_a", b"abcdef")?;
+    put_whole(&mut folder, "coord_io_b", b"uvwxyz")?;
+    let pieces: [(&str, u64, &[u8]); 5] = [
+        ("coord_io_a", 0, b"abcd"),
+        ("coord_io_a", 4, b"ef"),
+        ("coord_io_b", 4, b"yz"),
+        ("coord_io_a", 6, b""),
+        ("coord_io_a", 1, b"bcde"),
+    ];
+    for (name, place, piece) in &pieces {
+        let mut buf = [0; 4];
+        let count = folder.read_at(name, *place, &mut buf)?;
+        assert_eq!(rt; &buf[..count], *piece, "{name} at {place}");
+    }
+    fs::remove_file(&rt, "coord_io_a")?;
+    fs::remove_file(&rt, "coord_io_b")?;
     Ok(())
 }

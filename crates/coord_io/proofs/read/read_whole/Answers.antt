@@ -13,7 +13,7 @@ missing_from no_file is = refl
 missing_from no_read is = let no : ⊥ = cc in absurd no
 
 pub loop-read-init : goal.loop-read-init
-loop-read-init g c = record { reading = rw c.new-read.ensures.items (reading_start _ _ _); writes = refl; within = let none = c.new-read.ensures.len in omega arith }
+loop-read-init g c = record { reading = rw c.new-read.ensures.items (reading_start _ _); writes = refl; within = let none = c.new-read.ensures.len in omega arith }
 
 pub returns-in_err-count-clause-missing : goal.returns-in_err-count-clause-missing
 returns-in_err-count-clause-missing g c = λ is.

@@ -4,9 +4,8 @@ use Rattle.coord_io.proofs.read.read_whole.Given as goal
 
 abbrev pub invariant-loop-read : goal.invariant-loop-read
 invariant-loop-read g l = record {
-  reading : Reading l.name (g.F.Folder.files l.initial.folder) (g.F.Folder.files l.folder)
-      (g.F.Folder.read_faults l.initial.folder) (g.F.Folder.read_faults l.folder) l.read.items;
-  writes : g.F.Folder.write_faults l.folder ≡ g.F.Folder.write_faults l.initial.folder;
+  reading : Reading l.name (g.F.Folder.state l.initial.folder) (g.F.Folder.state l.folder) l.read.items;
+  writes : (g.F.Folder.state l.folder).writes ≡ (g.F.Folder.state l.initial.folder).writes;
   within : vec_len l.read ≤ l.limit;
 }
 

@@ -5,9 +5,9 @@ use Rattle.coord_io.proofs.write.append_whole.Given as goal
 
 abbrev pub invariant-loop-rest : goal.invariant-loop-rest
 invariant-loop-rest g l = record {
-  handed : Handed (Gains l.name) (g.F.Folder.files l.initial.folder) (g.F.Folder.files l.folder) l.bytes l.rest;
-  writes : g.F.Folder.write_faults l.initial.folder ≤ g.F.Folder.write_faults l.folder;
-  reads : g.F.Folder.read_faults l.folder ≡ g.F.Folder.read_faults l.initial.folder;
+  handed : Handed (Gains l.name) (g.F.Folder.state l.initial.folder).files (g.F.Folder.state l.folder).files l.bytes l.rest;
+  writes : (g.F.Folder.state l.initial.folder).writes ≤ (g.F.Folder.state l.folder).writes;
+  reads : (g.F.Folder.state l.folder).reads ≡ (g.F.Folder.state l.initial.folder).reads;
 }
 
 abbrev pub decreases-loop-rest : goal.decreases-loop-rest

@@ -5,8 +5,8 @@ use Rattle.coord_io.proofs.write.write_whole.Given as goal
 
 abbrev pub invariant-loop-rest : goal.invariant-loop-rest
 invariant-loop-rest g l = record {
-  handed : Handed Gained (g.K.Sink.written l.initial.out) (g.K.Sink.written l.out) l.bytes l.rest;
-  faults : g.K.Sink.faults l.initial.out ≤ g.K.Sink.faults l.out;
+  handed : Handed Gained (g.K.Sink.state l.initial.out).written (g.K.Sink.state l.out).written l.bytes l.rest;
+  faults : (g.K.Sink.state l.initial.out).faults ≤ (g.K.Sink.state l.out).faults;
 }
 
 abbrev pub decreases-loop-rest : goal.decreases-loop-rest

@@ -13,7 +13,7 @@ returns-in_default-clause-missing c = λ missing.
     let none : held (files_of c.self.inside.files.items) c.args.name.now ≡ None =
     ap (λ (files : List MemFile). held (files_of files) c.args.name.now) (sym c.deref.ensures.value) ∙ sym c.bytes_of.ensures ∙ ap option_copied c.in_default.is in
     record {
-      absent = goes_viewed (ap (λ s. s.files) c.self.view_is) (none, ap (λ s. s.read_faults) c.self.view_is);
+      absent = goes_viewed (ap (λ s. s.files) c.self.view_is) (none, ap (λ s. s.reads) c.self.view_is);
       untold = λ is. cc;
     }
 
