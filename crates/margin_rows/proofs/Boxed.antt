@@ -1,18 +1,18 @@
 -- Settings of the first box: their times are enclosed, and what follows for allowed settings.
-use Rattle.std.specs.Prelude.{slice_get, slice_index}
+use Rattle.std.specs.Prelude.{slice_get, slice_index, pos, ◌≤ℤ◌, ◌+ℤ◌}
 use Rattle.std.proofs.Common.{◌≡◌, ℕ, ◌<◌, List, [], ◌∷◌, zero, suc, length, Some, None, Option, arith, refl, inl, get_or}
 use Rattle.std.proofs.lemmas.List.Elements.{Contains-get_or}
 use Rattle.std.specs.List.{All, Contains}
 use Rattle.std.specs.Option.{IsSomeAnd, IfSome}
-use Rattle.coord_model.specs.Allowed.{IsAllowed, IsSensible, IsUsed, KeepsInterval, IsOnSteps}
+use Rattle.coord_model.specs.Allowed.{IsAllowed, IsSensible, IsUsed, Keeps, IsOnSteps}
 use Rattle.coord_model.specs.Choice.{Settings}
 use Rattle.coord_model.specs.declared.study.Relay.{Relay}
 use Rattle.coord_model.specs.declared.study.Row.{Row}
 use Rattle.margin_rows.specs.Case.{Case, FitsCase, rows_in, terms_in}
 use Rattle.margin_rows.specs.FirstBox.{IsFirstStep, IsInFirstBox}
-use Rattle.margin_rows.specs.Margin.{MeetsLoosely, MeetsStrictly}
+use Rattle.margin_rows.specs.Margin.{loose_margin, strict_margin, row_width, MeetsLoosely, MeetsStrictly}
 use Rattle.margin_rows.proofs.Costs.{AreSet}
-use Rattle.margin_rows.proofs.Kept.{strict_keeps, kept_meets}
+use Rattle.margin_rows.proofs.Kept.{strict_keeps, kept_meets, margins_near}
 use Rattle.margin_rows.proofs.Listed.{term_facts, row_facts, backup_used, primary_used}
 use Rattle.margin_rows.proofs.Places.{some_and}
 use Rattle.margin_rows.proofs.Timed.{IsTimedAt, IsEnclosed, enclosed}
@@ -61,14 +61,19 @@ pub set_primary : (case : Case) (settings : Settings) (row : Row) → FitsCase c
 set_primary case settings row fits box listed =
     set_enclosed case settings row.fault row.primary fits box (primary_used case row listed) (row_facts case row listed).primary
 
--- a row that is strictly met keeps the interval, and one that keeps it is loosely met
+-- a row that is strictly met is kept, and one that is kept is loosely met
 pub row_keeps : (case : Case) (settings : Settings) (row : Row) → FitsCase case → IsInFirstBox case settings → Contains (rows_in case) row
-    → MeetsStrictly case settings row → KeepsInterval case.study case.currents settings row
-row_keeps case settings row fits box listed met = strict_keeps case settings row (set_backup case settings row fits box listed) (set_primary case settings row fits box listed) met
+    → MeetsStrictly case settings row → Keeps case.study case.currents settings row
+row_keeps case settings row fits box listed met = strict_keeps case settings row (set_backup case settings row fits box listed) (set_primary case settings row fits box listed) (row_facts case row listed).one met
 
 pub row_meets : (case : Case) (settings : Settings) (row : Row) → FitsCase case → IsInFirstBox case settings → Contains (rows_in case) row
-    → KeepsInterval case.study case.currents settings row → MeetsLoosely case settings row
-row_meets case settings row fits box listed keeps = kept_meets case settings row (set_backup case settings row fits box listed) (set_primary case settings row fits box listed) keeps
+    → Keeps case.study case.currents settings row → MeetsLoosely case settings row
+row_meets case settings row fits box listed keeps = kept_meets case settings row (set_backup case settings row fits box listed) (set_primary case settings row fits box listed) (row_facts case row listed).one keeps
+
+-- the loose margin of a row lies near the strict one
+pub row_near : (case : Case) (settings : Settings) (row : Row) → FitsCase case → IsInFirstBox case settings → Contains (rows_in case) row
+    → loose_margin case settings row ≤ℤ (strict_margin case settings row +ℤ pos (row_width case settings row))
+row_near case settings row fits box listed = margins_near case settings row (set_backup case settings row fits box listed) (set_primary case settings row fits box listed)
 
 -- allowed settings lie in the first box
 pub allowed_in_first_box : (case : Case) (settings : Settings) → IsAllowed case.study case.currents settings → IsInFirstBox case settings

@@ -1,13 +1,16 @@
 pub mod Boxed
 pub mod Costs
 pub mod Curves
+mod Demands
 pub mod Dialled
 pub mod Filled
+pub mod Halved
 pub mod Inside
 pub mod Kept
 pub mod Laws
 pub mod Listed
 pub mod Looked
+pub mod LowestSettings
 pub mod Multiples
 pub mod Placed
 pub mod Places
@@ -16,9 +19,13 @@ pub mod Raising
 pub mod Ran
 pub mod Reached
 pub mod Rising
+pub mod RowKinds
+pub mod RowLaws
+pub mod SmallSums
 pub mod Spanned
 pub mod Summed
 pub mod Timed
 pub mod WaitingRows
 pub mod Widths
+pub mod Within
 pub mod Written

@@ -1,36 +1,40 @@
 -- Raising dials to the least that strictly meet every row.
 use Rattle.std.specs.Prelude.{slice_get, slice_index}
-use Rattle.std.proofs.Common.{◌≡◌, ℕ, suc, ◌+◌, ◌*◌, ◌<◌, ◌≤◌, inl, inr, List, [], ◌∷◌, length, set, replicate, Some, None, Option, arith, refl, sym, ap, ◌∙◌, subst, below_more, get_or-set_same, get_or-set_other}
+use Rattle.std.proofs.Common.{◌≡◌, ℕ, suc, ◌+◌, ◌*◌, ◌<◌, ◌≤◌, ◌↔◌, inl, inr, List, [], ◌∷◌, length, set, replicate, Some, None, Option, arith, refl, sym, ap, ◌∙◌, subst, below_more, get_or-set_same, get_or-set_other}
 use Rattle.std.proofs.Math.Nat.{mul-le-mul_right}
 use Rattle.std.proofs.lemmas.Bool.{cases_eq, cases_lt}
-use Rattle.std.proofs.lemmas.List.{length-set, length-replicate}
+use Rattle.std.proofs.lemmas.List.{length-set, length-replicate, ext_get_or}
+use Rattle.std.proofs.lemmas.List.Elements.{All-contains}
 use Rattle.std.proofs.lemmas.List.Sums.{sum_by-set, sum_by-cons}
 use Rattle.std.proofs.lemmas.Option.{slice_get_within, get_or_from_slice_get}
 use Rattle.std.specs.Int.{div_ceil}
-use Rattle.std.specs.List.{All, sum_by}
+use Rattle.std.specs.List.{All, Contains, sum_by}
 use Rattle.std.specs.Option.{IfSome, IsSomeAnd}
 use Rattle.coord_model.proofs.Quotients.{ceil_covers, ceil_least}
-use Rattle.coord_model.specs.Allowed.{IsOnSteps, IsSensible}
+use Rattle.coord_model.specs.Allowed.{IsOnSteps, IsSensible, dial_of}
 use Rattle.coord_model.specs.Choice.{Settings}
 use Rattle.coord_model.specs.PartLimits.{FitsRelay}
 use Rattle.coord_model.specs.StudyData.{StudyData}
 use Rattle.coord_model.specs.Time.{dial_at}
 use Rattle.coord_model.specs.declared.study.Relay.{Relay}
 use Rattle.coord_model.specs.declared.study.Row.{Row}
+use Rattle.coord_model.specs.declared.study.RowKind.{RowKind}
+use Rattle.coord_model.specs.declared.study.RowKind.TheVariants.{Interval, Least, Most}
 use Rattle.margin_rows.specs.Box.{IsDialStep}
-use Rattle.margin_rows.specs.Case.{Case, FitsCase, AtRow, rows_in}
+use Rattle.margin_rows.specs.Case.{Case, FitsCase, row_at, rows_in}
 use Rattle.margin_rows.specs.Dial.{dial_at_step}
 use Rattle.margin_rows.specs.FirstBox.{IsFirstStep, IsInFirstBox}
-use Rattle.margin_rows.specs.Least.{AreFirstPickups, IsStrict, IsStrictLeast}
-use Rattle.margin_rows.specs.Margin.{MeetsStrictly, interval_ps}
+use Rattle.margin_rows.specs.Least.{AreFirstPickups, IsStrict, IsStrictLeast, IsStrictLeastOf}
+use Rattle.margin_rows.specs.Demands.{slow_part, fast_part, asked_ps, granted_ps}
+use Rattle.margin_rows.specs.Margin.{MeetsStrictly, least_ps, greatest_ps}
 use Rattle.margin_rows.specs.Raised.{IsWaitOf, FitsWait, AreDialSteps, Suffices, IsRaised, AreLow, IsRound, step_sum}
-use Rattle.margin_rows.specs.Times.{time_at, ends, IsOrdinary}
+use Rattle.margin_rows.specs.Times.{time_at}
 use Rattle.margin_rows.specs.declared.least.Rise.{Rise}
 use Rattle.margin_rows.specs.declared.least.Rise.TheVariants.{Kept, Rose, Beyond}
 use Rattle.margin_rows.specs.declared.least.Wait.{Wait}
 use Rattle.margin_rows.proofs.Dialled.{dial_on_step, dial_rises}
-use Rattle.margin_rows.proofs.Listed.{IsRowOf, row_facts}
-use Rattle.margin_rows.proofs.Placed.{of_some, found_listed, all_rows, ends_small}
+use Rattle.margin_rows.proofs.Listed.{row_facts}
+use Rattle.margin_rows.proofs.Placed.{of_some, all_rows}
 use Rattle.margin_rows.proofs.Places.{and_some}
 use Rattle.margin_rows.proofs.Timed.{at_place}
 use Rattle.margin_rows.proofs.Written.{in_list, zeros_at}
@@ -56,42 +60,62 @@ module _ (case : Case) (i time due dial : ℕ) (relay : Relay) (found : slice_ge
       let enough = rw (dial_there case.study i step relay found) at suffices in
       least step below (rw is (ceil_least due time (dial_at relay step) some enough))
 
--- a step at which the backup waits longer lies higher
+-- a step at which the relay is slower lies higher
 pub longer_is_higher : (study : StudyData) (i old new time bound : ℕ) → dial_at_step study i old * time < bound → bound ≤ dial_at_step study i new * time → old < new
 longer_is_higher study i old new time bound short enough = elim (cases_lt old new) [
   | inl below ↦ below
   | inr past ↦ absurd (let fall : dial_at_step study i new * time ≤ dial_at_step study i old * time = mul-le-mul_right time (dial_rises study i new old past) in omega (arith, short, enough, fall))
 ]
 
--- the row is strictly met where the backup waits long enough
+-- a dial times the part of a time that counts is the part of the dial times the time
+slow_scaled : (kind : RowKind) (dial time : ℕ) → slow_part kind (dial * time) ≡ dial * slow_part kind time
+slow_scaled Interval dial time = refl
+slow_scaled Least dial time = refl
+slow_scaled Most dial time = omega arith
+
+fast_scaled : (kind : RowKind) (dial time : ℕ) → fast_part kind (dial * time) ≡ dial * fast_part kind time
+fast_scaled Interval dial time = refl
+fast_scaled Least dial time = omega arith
+fast_scaled Most dial time = refl
+
+-- with these dials and pickups the row is strictly met exactly if the wait's times leave what it asks
+abbrev pub Leaves : Case → Row → Wait → Settings → Type 0
+Leaves case row wait settings =
+    dial_of case.study settings row.primary * wait.fast_time + wait.asked ≤ dial_of case.study settings row.backup * wait.slow_time + wait.granted
+
+pub wait_is : (case : Case) (pickups : List ℕ) (row : Row) (wait : Wait) (settings : Settings) → settings.pickup ≡ pickups → IsWaitOf case pickups row wait → MeetsStrictly case settings row ↔ Leaves case row wait settings
+wait_is case pickups row wait settings same is =
+    let P : List ℕ → Type 0 = λ ps. MeetsStrictly case settings row ↔ (dial_of case.study settings row.primary * fast_part row.kind (time_at case row.fault row.primary (slice_index ps row.primary)).upper + asked_ps case.study row
+    ≤ dial_of case.study settings row.backup * slow_part row.kind (time_at case row.fault row.backup (slice_index ps row.backup)).lower + granted_ps case.study row) in
+    rw (is.slow_time, is.fast_time, is.asked, is.granted) (subst P same (scaled row.kind))
+  where
+    scaled : (kind : RowKind) → (fast_part kind (greatest_ps case settings row.fault row.primary) + asked_ps case.study row ≤ slow_part kind (least_ps case settings row.fault row.backup) + granted_ps case.study row)
+        ↔ (dial_of case.study settings row.primary * fast_part kind (time_at case row.fault row.primary (slice_index settings.pickup row.primary)).upper + asked_ps case.study row
+        ≤ dial_of case.study settings row.backup * slow_part kind (time_at case row.fault row.backup (slice_index settings.pickup row.backup)).lower + granted_ps case.study row)
+    scaled kind =
+        let fast = fast_scaled kind (dial_of case.study settings row.primary) (time_at case row.fault row.primary (slice_index settings.pickup row.primary)).upper in
+        let slow = slow_scaled kind (dial_of case.study settings row.backup) (time_at case row.fault row.backup (slice_index settings.pickup row.backup)).lower in
+        (λ met. omega (arith, met, fast, slow), λ leaves. omega (arith, leaves, fast, slow))
+
+-- the row is strictly met where the slow relay's dial suffices
 pub wait_meets : (case : Case) (pickups dials : List ℕ) (row : Row) (wait : Wait) → IsWaitOf case pickups row wait → Suffices case dials wait (slice_index dials wait.backup)
     → MeetsStrictly case (record { pickup = pickups; dial = dials }) row
-wait_meets case pickups dials row wait is suffices = rw (is.backup, is.primary, is.backup_time, is.primary_time) at suffices
+wait_meets case pickups dials row wait is suffices =
+    (wait_is case pickups row wait (record { pickup = pickups; dial = dials }) refl is).1 (rw (is.backup, is.primary) at suffices)
 
--- the row with a number
-pub record IsRowHere (case : Case) (number : ℕ) (row : Row) : Type 0 where
-  pub found : slice_get (rows_in case) number ≡ Some row
-  pub facts : IsRowOf case row
-
-pub row_here : (case : Case) (number : ℕ) (row : Row) → slice_get (rows_in case) number ≡ Some row → IsRowHere case number row
-row_here case number row found = record { found = found; facts = row_facts case row (found_listed (rows_in case) number row found) }
-
--- where strict settings have no lower dials, their dial of the backup suffices
-pub strict_suffices : (case : Case) (pickups dials : List ℕ) (number : ℕ) (row : Row) (wait : Wait) (other : Settings) → IsRowHere case number row → IsWaitOf case pickups row wait → AreLow case pickups dials → IsStrict case pickups other
+-- where strict settings have no lower dials, their dial of the slow relay suffices
+pub strict_suffices : (case : Case) (pickups dials : List ℕ) (row : Row) (wait : Wait) (other : Settings) → Contains (rows_in case) row → IsWaitOf case pickups row wait → AreLow case pickups dials → IsStrict case pickups other
     → IsDialStep case wait.backup (slice_index other.dial wait.backup) × Suffices case dials wait (slice_index other.dial wait.backup)
-strict_suffices case pickups dials number row wait other here is low strict =
-    let P : List ℕ → Type 0 = λ ps.
-    dial_at_step case.study row.primary (slice_index other.dial row.primary) * (time_at case row.fault row.primary (slice_index ps row.primary)).upper + interval_ps case.study
-    ≤ dial_at_step case.study row.backup (slice_index other.dial row.backup) * (time_at case row.fault row.backup (slice_index ps row.backup)).lower in
-    let met = subst P strict.same_pickups (at_place (MeetsStrictly case other) (rows_in case) number row strict.met here.found) in
-    let rises = mul-le-mul_right (time_at case row.fault row.primary (slice_index pickups row.primary)).upper (dial_rises case.study row.primary (slice_index dials row.primary) (slice_index other.dial row.primary) (low.lowest other strict row.primary)) in (
-      rw is.backup (dial_on_step case other row.backup strict.on_steps here.facts.backup),
-      rw (is.backup, is.primary, is.backup_time, is.primary_time) (omega (arith, met, rises)),
+strict_suffices case pickups dials row wait other listed is low strict =
+    let met = (wait_is case pickups row wait other strict.same_pickups is).0 (All-contains (MeetsStrictly case other) (rows_in case) row strict.met listed) in
+    let rises = mul-le-mul_right wait.fast_time (dial_rises case.study row.primary (slice_index dials row.primary) (slice_index other.dial row.primary) (low.lowest other strict row.primary)) in (
+      rw is.backup (dial_on_step case other row.backup strict.on_steps (row_facts case row listed).backup),
+      rw (is.backup, is.primary) (omega (arith, met, rises)),
     )
 
 -- the dials after one rose are low too
-pub raised_low : (case : Case) (pickups old new : List ℕ) (number : ℕ) (row : Row) (wait : Wait) → FitsWait case wait → IsRowHere case number row → IsWaitOf case pickups row wait → AreLow case pickups old → IsRaised case wait old new → AreLow case pickups new
-raised_low case pickups old new number row wait fits here is low raised =
+pub raised_low : (case : Case) (pickups old new : List ℕ) (row : Row) (wait : Wait) → FitsWait case wait → Contains (rows_in case) row → IsWaitOf case pickups row wait → AreLow case pickups old → IsRaised case wait old new → AreLow case pickups new
+raised_low case pickups old new row wait fits listed is low raised =
     let P : List ℕ → Type 0 = λ ds. AreLow case pickups ds in
     subst P (sym raised.written) (record {
       on_steps = record {
@@ -103,7 +127,7 @@ raised_low case pickups old new number row wait fits here is low raised =
       };
       lowest = λ other strict i. elim (cases_eq i wait.backup) [
         | inl same ↦
-            let enough = strict_suffices case pickups old number row wait other here is low strict in
+            let enough = strict_suffices case pickups old row wait other listed is low strict in
             rw (same, risen) (raised.least (slice_index other.dial wait.backup) enough.0 enough.1)
         | inr apart ↦ rw (kept i apart) (low.lowest other strict i)
       ];
@@ -124,15 +148,15 @@ raised_sum case wait old new fits on_steps raised =
 
 -- what the first rows did: the dials are those before and meet them, or one rose
 abbrev pub IsSoFar : Case → List ℕ → List ℕ → List ℕ → ℕ → Rise → Type 0
-IsSoFar case pickups old new row Kept = (new ≡ old) × ((k : ℕ) → k < row → AtRow case k (MeetsStrictly case (record { pickup = pickups; dial = new })))
+IsSoFar case pickups old new row Kept = (new ≡ old) × ((k : ℕ) → k < row → MeetsStrictly case (record { pickup = pickups; dial = new }) (row_at case k))
 IsSoFar case pickups old new row Rose = step_sum old < step_sum new
 IsSoFar case pickups old new row Beyond = ⊥
 
 -- one row more, at which the dials were kept or one rose
-pub so_far_kept : (case : Case) (pickups first old new : List ℕ) (row : ℕ) (rise : Rise) → new ≡ old → AtRow case row (MeetsStrictly case (record { pickup = pickups; dial = old })) → IsSoFar case pickups first old row rise
+pub so_far_kept : (case : Case) (pickups first old new : List ℕ) (row : ℕ) (rise : Rise) → new ≡ old → MeetsStrictly case (record { pickup = pickups; dial = old }) (row_at case row) → IsSoFar case pickups first old row rise
     → IsSoFar case pickups first new (row + 1) rise
 so_far_kept case pickups first old new row Kept same met so_far =
-    (same ∙ so_far.0, let P : List ℕ → Type 0 = λ ds. (k : ℕ) → k < row + 1 → AtRow case k (MeetsStrictly case (record { pickup = pickups; dial = ds })) in subst P (sym same) (below_more (λ k. AtRow case k (MeetsStrictly case (record { pickup = pickups; dial = old }))) row so_far.1 met))
+    (same ∙ so_far.0, let P : List ℕ → Type 0 = λ ds. (k : ℕ) → k < row + 1 → MeetsStrictly case (record { pickup = pickups; dial = ds }) (row_at case k) in subst P (sym same) (below_more (λ k. MeetsStrictly case (record { pickup = pickups; dial = old }) (row_at case k)) row so_far.1 met))
 so_far_kept case pickups first old new row Rose same met so_far = omega (arith, so_far, ap (λ (ds : List ℕ). step_sum ds) same)
 so_far_kept case pickups first old new row Beyond same met so_far = so_far
 
@@ -215,29 +239,12 @@ least_in_first_box case pickups settings first least = record {
         let P : List ℕ → Type 0 = λ ps. IsSensible case.study case.currents i relay (slice_index ps i) in
         subst P (sym least.strict.same_pickups) pickup.1
 
--- what a row asks, from the times that the code reads
-pub wait_made : (case : Case) (pickups : List ℕ) (number : ℕ) (row : Row) (b p : ℕ) (backup primary : ℕ × ℕ) → IsRowHere case number row → b ≡ slice_index pickups row.backup → p ≡ slice_index pickups row.primary
-    → AtRow case number (λ r. backup ≡ ends (time_at case r.fault r.backup b)) → AtRow case number (λ r. primary ≡ ends (time_at case r.fault r.primary p))
-    → AtRow case number (λ r. IsOrdinary (time_at case r.fault r.backup b)) → AtRow case number (λ r. IsOrdinary (time_at case r.fault r.primary p))
-    → let wait : Wait = record { backup = row.backup; primary = row.primary; backup_time = backup.0; primary_time = primary.1 } in IsWaitOf case pickups row wait × FitsWait case wait
-wait_made case pickups number row b p backup primary here b_is p_is backup_at primary_at backup_ordinary primary_ordinary =
-    let backup_is = of_some (slice_get (rows_in case) number) (λ r. backup ≡ ends (time_at case r.fault r.backup b)) row here.found backup_at in
-    let primary_is = of_some (slice_get (rows_in case) number) (λ r. primary ≡ ends (time_at case r.fault r.primary p)) row here.found primary_at in
-    let backup_fits = of_some (slice_get (rows_in case) number) (λ r. IsOrdinary (time_at case r.fault r.backup b)) row here.found backup_ordinary in
-    let primary_fits = of_some (slice_get (rows_in case) number) (λ r. IsOrdinary (time_at case r.fault r.primary p)) row here.found primary_ordinary in
-    let low : backup.0 ≡ (time_at case row.fault row.backup b).lower = ap (λ (t : ℕ × ℕ). t.0) backup_is in
-    let high : primary.1 ≡ (time_at case row.fault row.primary p).upper = ap (λ (t : ℕ × ℕ). t.1) primary_is in (
-      record {
-        backup = refl;
-        primary = refl;
-        backup_time = low ∙ ap (λ (k : ℕ). (time_at case row.fault row.backup k).lower) b_is;
-        primary_time = high ∙ ap (λ (k : ℕ). (time_at case row.fault row.primary k).upper) p_is;
-      },
-      record {
-        backup = here.facts.backup;
-        primary = here.facts.primary;
-        some = omega (arith, low, backup_fits.positive);
-        backup_small = (ends_small (time_at case row.fault row.backup b) backup backup_is backup_fits).0;
-        primary_small = (ends_small (time_at case row.fault row.primary p) primary primary_is primary_fits).1;
-      },
-    )
+-- there is one strict-least choice of pickups at most
+pub one_least : (case : Case) (pickups : List ℕ) (found other : Option Settings) → IsStrictLeastOf case pickups found → IsStrictLeastOf case pickups other → other ≡ found
+one_least case pickups None None none least = refl
+one_least case pickups None (Some other) none least = absurd (none other least.strict)
+one_least case pickups (Some found) None least none = absurd (none found least.strict)
+one_least case pickups (Some found) (Some other) first second =
+    let dials = ext_get_or 0 other.dial found.dial (second.strict.on_steps.dials ∙ sym first.strict.on_steps.dials) (λ i below. omega (arith, first.least other second.strict i, second.least found first.strict i)) in
+    let P : List ℕ → List ℕ → Type 0 = λ ps ds. other ≡ record { pickup = ps; dial = ds } in
+    ap Some (subst (λ (ds : List ℕ). P found.pickup ds) dials (subst (λ (ps : List ℕ). P ps other.dial) (second.strict.same_pickups ∙ sym first.strict.same_pickups) refl))

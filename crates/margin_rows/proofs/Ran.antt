@@ -16,23 +16,24 @@ use Rattle.coord_model.specs.declared.study.Row.{Row}
 use Rattle.coord_model.specs.declared.study.Term.{Term}
 use Rattle.margin_rows.specs.declared.runs.RowRuns.{RowRuns}
 use Rattle.margin_rows.specs.Case.{Case, terms_in}
-use Rattle.margin_rows.specs.Tables.{cell, cells, Extends, HoldsRun, HoldsRuns, HoldTermRuns}
+use Rattle.margin_rows.specs.Tables.{no_time, cell, cells, Extends, HoldsRun, HoldsRuns, HoldTermRuns}
 use Rattle.margin_rows.specs.declared.runs.Runs.{Runs}
-use Rattle.margin_rows.specs.Times.{relay_time, time_at, ends}
+use Rattle.margin_rows.specs.declared.ends.Ends.{Ends}
+use Rattle.margin_rows.specs.Times.{relay_time, time_at, ends_of}
 use Rattle.margin_rows.proofs.Places.{some_and, and_some}
 use Rattle.margin_rows.proofs.Timed.{time_found}
 
 -- the cell of a step that senses the current is its time
-pub cell_sensed : (study : StudyData) (relay : Relay) (amps step : ℕ) → Senses study relay step amps → cell study relay amps step ≡ ends (relay_time study.cap relay step amps)
+pub cell_sensed : (study : StudyData) (relay : Relay) (amps step : ℕ) → Senses study relay step amps → cell study relay amps step ≡ ends_of (relay_time study.cap relay step amps)
 unfolding cell
 cell_sensed study relay amps step senses = rw (le-leb _ _ senses) refl
 
 -- that of a step that does not is zeros
-pub cell_blind : (study : StudyData) (relay : Relay) (amps step : ℕ) → (Senses study relay step amps → ⊥) → cell study relay amps step ≡ (0, 0)
+pub cell_blind : (study : StudyData) (relay : Relay) (amps step : ℕ) → (Senses study relay step amps → ⊥) → cell study relay amps step ≡ no_time
 unfolding cell
-cell_blind study relay amps step blind = zeros (ends (relay_time study.cap relay step amps)) (leb (study.sense * (plug_at relay step * relay.ct_primary)) (100 * (100 * amps * relay.ct_secondary))) (λ yes_it_does. blind (leb-true _ _ yes_it_does))
+cell_blind study relay amps step blind = zeros (ends_of (relay_time study.cap relay step amps)) (leb (study.sense * (plug_at relay step * relay.ct_primary)) (100 * (100 * amps * relay.ct_secondary))) (λ yes_it_does. blind (leb-true _ _ yes_it_does))
   where
-    zeros : (x : ℕ × ℕ) (b : Bool) → (b ≡ true → ⊥) → cond b x (0, 0) ≡ (0, 0)
+    zeros : (x : Ends) (b : Bool) → (b ≡ true → ⊥) → cond b x no_time ≡ no_time
     zeros x true not_so = absurd (not_so refl)
     zeros x false not_so = refl
 
@@ -42,18 +43,18 @@ slice_get_grown xs ys k x found =
     let below = slice_get_within xs k x found in
     slice_get-get_or (xs ++ ys) k x (omega (arith, below, length-append xs ys)) ∙ ap Some (get_or_append_left xs ys x k below ∙ get_or_from_slice_get xs k x x found)
 
-pub run_grown : (case : Case) (old new : List (ℕ × ℕ)) (f r start : ℕ) → Extends old new → HoldsRun case old f r start → HoldsRun case new f r start
+pub run_grown : (case : Case) (old new : List Ends) (f r start : ℕ) → Extends old new → HoldsRun case old f r start → HoldsRun case new f r start
 run_grown case old new f r start extends run =
     record {
-      each = λ step timed. let P : List (ℕ × ℕ) → Type 0 = λ ts. slice_get ts (start + step) ≡ Some (ends (time_at case f r step)) in
-          subst P (sym extends.1) (slice_get_grown old extends.0 (start + step) (ends (time_at case f r step)) (run.each step timed));
+      each = λ step timed. let P : List Ends → Type 0 = λ ts. slice_get ts (start + step) ≡ Some (ends_of (time_at case f r step)) in
+          subst P (sym extends.1) (slice_get_grown old extends.0 (start + step) (ends_of (time_at case f r step)) (run.each step timed));
     }
 
-pub extends_again : (old mid new : List (ℕ × ℕ)) → Extends old mid → Extends mid new → Extends old new
-extends_again old mid new first second = (first.0 ++ second.0, second.1 ∙ (ap (λ (t : List (ℕ × ℕ)). t ++ second.0) first.1 ∙ append_assoc old first.0 second.0))
+pub extends_again : (old mid new : List Ends) → Extends old mid → Extends mid new → Extends old new
+extends_again old mid new first second = (first.0 ++ second.0, second.1 ∙ (ap (λ (t : List Ends). t ++ second.0) first.1 ∙ append_assoc old first.0 second.0))
 
 -- the cells of a relay at its current, put at the end, are its run
-pub run_pushed : (case : Case) (times : List (ℕ × ℕ)) (f r : ℕ) (relay : Relay) → slice_get case.study.relays r ≡ Some relay
+pub run_pushed : (case : Case) (times : List Ends) (f r : ℕ) (relay : Relay) → slice_get case.study.relays r ≡ Some relay
     → HoldsRun case (times ++ cells case.study relay (amps_at case.currents f r)) f r (length times)
 run_pushed case times f r relay found =
     record {
@@ -68,23 +69,23 @@ run_pushed case times f r relay found =
     same_some x y e = cc
 
     placed : (step : ℕ) → (step < relay.plug_count) × Senses case.study relay step (amps_at case.currents f r)
-        → slice_get (times ++ cells case.study relay (amps_at case.currents f r)) (length times + step) ≡ Some (ends (time_at case f r step))
+        → slice_get (times ++ cells case.study relay (amps_at case.currents f r)) (length times + step) ≡ Some (ends_of (time_at case f r step))
     placed step fact =
         let run = cells case.study relay (amps_at case.currents f r) in
         let count = length-map-range_with_len (cell case.study relay (amps_at case.currents f r)) 0 relay.plug_count in
-        slice_get-get_or (times ++ run) (length times + step) (0, 0) (omega (arith, fact.0, count, length-append times run))
-        ∙ ap Some (get_or-append-add times run step (0, 0)
-        ∙ get_or-map-range_with_len (cell case.study relay (amps_at case.currents f r)) 0 relay.plug_count step step (0, 0) fact.0 (omega arith)
+        slice_get-get_or (times ++ run) (length times + step) no_time (omega (arith, fact.0, count, length-append times run))
+        ∙ ap Some (get_or-append-add times run step no_time
+        ∙ get_or-map-range_with_len (cell case.study relay (amps_at case.currents f r)) 0 relay.plug_count step step no_time fact.0 (omega arith)
         ∙ cell_sensed case.study relay (amps_at case.currents f r) step fact.1
-        ∙ ap ends (sym (time_found case f r step relay found)))
+        ∙ ap (λ (e : _). ends_of e) (sym (time_found case f r step relay found)))
 
 -- the run that the code puts at the end
-pub run_made : (case : Case) (study : StudyData) (times new : List (ℕ × ℕ)) (f r start amps : ℕ) (relay : Relay) → study ≡ case.study → slice_get case.study.relays r ≡ Some relay
+pub run_made : (case : Case) (study : StudyData) (times new : List Ends) (f r start amps : ℕ) (relay : Relay) → study ≡ case.study → slice_get case.study.relays r ≡ Some relay
     → amps ≡ amps_at case.currents f r → start ≡ length times → new ≡ times ++ cells study relay amps → HoldsRun case new f r start
 run_made case study times new f r start amps relay same found is at made =
-    let P : List (ℕ × ℕ) → ℕ → Type 0 = λ ts k. HoldsRun case ts f r k in
+    let P : List Ends → ℕ → Type 0 = λ ts k. HoldsRun case ts f r k in
     let whole : new ≡ times ++ cells case.study relay (amps_at case.currents f r) = made ∙ ap (λ (s : StudyData). times ++ cells s relay amps) same ∙ ap (λ (a : ℕ). times ++ cells case.study relay a) is in
-    let Q : List (ℕ × ℕ) → Type 0 = λ ts. HoldsRun case ts f r start in
+    let Q : List Ends → Type 0 = λ ts. HoldsRun case ts f r start in
     let S : ℕ → Type 0 = λ k. HoldsRun case (times ++ cells case.study relay (amps_at case.currents f r)) f r k in
     subst Q (sym whole) (subst S (sym at) (run_pushed case times f r relay found))
 
@@ -128,7 +129,7 @@ pub place_is : (a n b f r w : ℕ) → a ≡ f → n ≡ w → b ≡ r → a * n
 place_is a n b f r w x y z = rw (x, y, z) refl
 
 -- the runs of the terms, one term on
-pub term_runs_more : (case : Case) (terms : List Term) (old new : List (ℕ × ℕ)) (starts later : List ℕ) (i start : ℕ) (d : Term) → i < length terms → length starts ≡ i → later ≡ starts ++ start ∷ [] → Extends old new
+pub term_runs_more : (case : Case) (terms : List Term) (old new : List Ends) (starts later : List ℕ) (i start : ℕ) (d : Term) → i < length terms → length starts ≡ i → later ≡ starts ++ start ∷ [] → Extends old new
     → ((k : ℕ) → k < i → IsSomeAnd (slice_get terms k) (λ term. HoldsRun case old term.fault term.relay (get_or starts k 0))) → HoldsRun case new (get_or terms i d).fault (get_or terms i d).relay start
     → (k : ℕ) → k < i + 1 → IsSomeAnd (slice_get terms k) (λ term. HoldsRun case new term.fault term.relay (get_or later k 0))
 term_runs_more case terms old new starts later i start d below count pushed extends each run k inside =
@@ -147,7 +148,7 @@ term_runs_more case terms old new starts later i start d below count pushed exte
     ]
 
 -- the runs of the terms stay as the list grows
-pub term_runs_grown : (case : Case) (old new : List (ℕ × ℕ)) (starts : List ℕ) → Extends old new → HoldTermRuns case old starts → HoldTermRuns case new starts
+pub term_runs_grown : (case : Case) (old new : List Ends) (starts : List ℕ) → Extends old new → HoldTermRuns case old starts → HoldTermRuns case new starts
 term_runs_grown case old new starts extends holds = record {
   count = holds.count;
   each = λ k below.
@@ -156,14 +157,14 @@ term_runs_grown case old new starts extends holds = record {
 }
 
 -- the two runs of a row stand in the list
-abbrev pub HoldsBoth : Case → List (ℕ × ℕ) → Row → RowRuns → Type 0
+abbrev pub HoldsBoth : Case → List Ends → Row → RowRuns → Type 0
 HoldsBoth case times row at = HoldsRun case times row.fault row.backup at.backup × HoldsRun case times row.fault row.primary at.primary
 
-both_grown : (case : Case) (old new : List (ℕ × ℕ)) (row : Row) (at : RowRuns) → Extends old new → HoldsBoth case old row at → HoldsBoth case new row at
+both_grown : (case : Case) (old new : List Ends) (row : Row) (at : RowRuns) → Extends old new → HoldsBoth case old row at → HoldsBoth case new row at
 both_grown case old new row at extends both = (run_grown case old new row.fault row.backup at.backup extends both.0, run_grown case old new row.fault row.primary at.primary extends both.1)
 
 -- the runs of the rows, one row on
-pub row_runs_more : (case : Case) (rows : List Row) (old new : List (ℕ × ℕ)) (starts later : List RowRuns) (i : ℕ) (at : RowRuns) (d : Row) → i < length rows → length starts ≡ i → later ≡ starts ++ at ∷ [] → Extends old new
+pub row_runs_more : (case : Case) (rows : List Row) (old new : List Ends) (starts later : List RowRuns) (i : ℕ) (at : RowRuns) (d : Row) → i < length rows → length starts ≡ i → later ≡ starts ++ at ∷ [] → Extends old new
     → ((k : ℕ) → k < i → IsSomeAnd (slice_get rows k) (λ row. IsSomeAnd (slice_get starts k) (λ runs. HoldsBoth case old row runs))) → HoldsBoth case new (get_or rows i d) at
     → (k : ℕ) → k < i + 1 → IsSomeAnd (slice_get rows k) (λ row. IsSomeAnd (slice_get later k) (λ runs. HoldsBoth case new row runs))
 row_runs_more case rows old new starts later i at d below count pushed extends each both k inside =

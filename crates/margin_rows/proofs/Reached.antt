@@ -13,11 +13,13 @@ use Rattle.coord_model.specs.Rows.{amps_at}
 use Rattle.coord_model.specs.StudyData.{StudyData}
 use Rattle.coord_model.specs.declared.study.Relay.{Relay}
 use Rattle.coord_model.specs.declared.study.Row.{Row}
+use Rattle.coord_model.specs.declared.study.RowKind.TheVariants.{Interval}
 use Rattle.coord_model.specs.declared.study.Term.{Term}
 use Rattle.margin_rows.specs.Case.{Case, rows_in, terms_in}
 use Rattle.margin_rows.specs.FirstBox.{IsFirstStep, IsFirstSpanOf}
 use Rattle.margin_rows.specs.Reach.{steps_of, SensesAt, ClearsAt, IsCut, ReachesTo, AreReaches, IsClearSpan}
 use Rattle.relay_pairs.proofs.Members.{member_here, member_cases, member_none}
+use Rattle.margin_rows.proofs.Listed.{backup_used, interval_listed}
 use Rattle.margin_rows.proofs.Multiples.{plug_rises}
 
 -- what one relay reaches once one more current is looked at
@@ -180,7 +182,7 @@ term_step case terms k d reach place cut below is inside reaches is_cut =
 
 -- the uses of terms and of a front of the rows
 abbrev pub UsedBy : List Term → List Row → ℕ → ℕ → Type 0
-UsedBy terms rows f i = Contains terms (record { fault = f; relay = i }) ⊎ ((p : ℕ) × Contains rows (record { fault = f; backup = i; primary = p }))
+UsedBy terms rows f i = Contains terms (record { fault = f; relay = i }) ⊎ ((row : Row) × Contains rows row × (f ≡ row.fault) × (i ≡ row.backup))
 
 -- one row more
 pub row_step : (case : Case) (terms : List Term) (rows : List Row) (k : ℕ) (d : Row) (reach : List ℕ) (place cut : ℕ) → k < length rows → place ≡ (get_or rows k d).backup → (get_or rows k d).backup < length case.study.relays
@@ -195,22 +197,22 @@ row_step case terms rows k d reach place cut below is inside reaches is_cut =
     reaches inside the_cut
     (λ g j used. elim used [
       | inl term ↦ inl (inl term)
-      | inr row ↦ elim (Contains-append_cases (take k rows) (t ∷ []) (record { fault = g; backup = j; primary = row.0 }) row.1) [
-        | inl old ↦ inl (inr (row.0, old))
-        | inr new ↦ elim (member_cases t (record { fault = g; backup = j; primary = row.0 }) [] new) [
-          | inl e ↦ inr (ap (λ (x : Row). x.fault) (sym e), ap (λ (x : Row). x.backup) (sym e))
-          | inr none ↦ absurd (member_none (record { fault = g; backup = j; primary = row.0 }) none)
+      | inr row ↦ elim (Contains-append_cases (take k rows) (t ∷ []) row.0 row.1) [
+        | inl old ↦ inl (inr (row.0, old, row.2, row.3))
+        | inr new ↦ elim (member_cases t row.0 [] new) [
+          | inl e ↦ inr (row.2 ∙ ap (λ (x : Row). x.fault) (sym e), row.3 ∙ ap (λ (x : Row). x.backup) (sym e))
+          | inr none ↦ absurd (member_none row.0 none)
         ]
       ]
     ])
-    (λ g j used. elim used [ inl term ↦ inl term | inr row ↦ inr (row.0, Contains-append_left (take k rows) (t ∷ []) (record { fault = g; backup = j; primary = row.0 }) row.1) ])
-    (inr (t.primary, Contains-append_right (take k rows) (t ∷ []) t (member_here t t [] refl)))) is_cut)
+    (λ g j used. elim used [ inl term ↦ inl term | inr row ↦ inr (row.0, Contains-append_left (take k rows) (t ∷ []) row.0 row.1, row.2, row.3) ])
+    (inr (t, Contains-append_right (take k rows) (t ∷ []) t (member_here t t [] refl), refl, refl))) is_cut)
 
 -- before the first row the uses are those of the terms, and after the last they are all
 pub rows_none : (case : Case) (terms : List Term) (reach : List ℕ) → AreReaches case (λ f i. Contains terms (record { fault = f; relay = i })) reach → AreReaches case (UsedBy terms []) reach
 rows_none case terms reach reaches =
     reach_same case (λ f i. Contains terms (record { fault = f; relay = i })) (UsedBy terms []) reach reaches
-    (λ g j used. elim used [ inl term ↦ term | inr row ↦ absurd (member_none (record { fault = g; backup = j; primary = row.0 }) row.1) ]) (λ g j term. inl term)
+    (λ g j used. elim used [ inl term ↦ term | inr row ↦ absurd (member_none row.0 row.1) ]) (λ g j term. inl term)
 
 pub rows_all_used : (case : Case) (terms : List Term) (rows : List Row) (k : ℕ) (reach : List ℕ) → terms ≡ terms_in case → rows ≡ rows_in case → length rows ≤ k → AreReaches case (UsedBy terms (take k rows)) reach
     → AreReaches case (IsUsed case.study case.currents) reach
@@ -218,4 +220,12 @@ rows_all_used case terms rows k reach term_list row_list past reaches =
     let P : List Term → Type 0 = λ ts. AreReaches case (UsedBy ts rows) reach in
     let Q : List Row → Type 0 = λ rs. AreReaches case (UsedBy (terms_in case) rs) reach in
     let R : List Row → Type 0 = λ rs. AreReaches case (UsedBy terms rs) reach in
-    subst Q row_list (subst P term_list (subst R (take_all k rows past) reaches))
+    reach_same case (UsedBy (terms_in case) (rows_in case)) (IsUsed case.study case.currents) reach (subst Q row_list (subst P term_list (subst R (take_all k rows past) reaches)))
+    (λ g j used. elim used [
+      | inl term ↦ inl term
+      | inr row ↦ inr (record { kind = Interval; fault = g; backup = j; primary = row.0 }, interval_listed case _ row.1, refl, refl)
+    ])
+    (λ g j by. elim by [
+      | inl term ↦ inl term
+      | inr row ↦ rw (row.2, row.3) (backup_used case row.0 row.1)
+    ])

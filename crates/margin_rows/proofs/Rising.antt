@@ -59,5 +59,5 @@ relay_falls case f i step later relay fits found below senses later_below later_
     let early = sensed_enclosable case.study relay step amps fits.study relay_fits below few senses in
     let late = sensed_enclosable case.study relay later amps fits.study relay_fits later_below few later_senses in
     rw (time_found case f i step relay found, time_found case f i later relay found)
-    (time_falls relay.curve (capped case.study.cap (sensed_multiple relay later amps)) (capped case.study.cap (sensed_multiple relay step amps)) late early
+    (time_falls relay.curve (capped case.study.cap (sensed_multiple relay later amps)) (capped case.study.cap (sensed_multiple relay step amps)) relay_fits.curve late early
     (capped_at_most case.study.cap (sensed_multiple relay later amps) (sensed_multiple relay step amps) (multiple_small case.study relay later amps relay_fits later_below few).some (multiple_falls relay step later amps rises)))

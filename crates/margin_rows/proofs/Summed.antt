@@ -16,8 +16,9 @@ use Rattle.coord_model.specs.declared.study.Term.{Term}
 use Rattle.margin_rows.specs.Case.{Case, FitsCase, terms_in}
 use Rattle.margin_rows.specs.FirstBox.{IsFirstStep, IsFirstSpan, IsFirstSpanOf}
 use Rattle.margin_rows.specs.Price.{term_part, term_sum}
-use Rattle.margin_rows.specs.Tables.{HoldsRun, HoldsSums, HoldTermRuns}
-use Rattle.margin_rows.specs.Times.{time_at, ends, IsOrdinary}
+use Rattle.margin_rows.specs.Tables.{no_time, HoldsRun, HoldsSums, HoldTermRuns}
+use Rattle.margin_rows.specs.declared.ends.Ends.{Ends}
+use Rattle.margin_rows.specs.Times.{time_at, ends_of, IsOrdinary}
 use Rattle.margin_rows.proofs.Listed.{IsTermOf, term_facts, term_used}
 use Rattle.margin_rows.proofs.Looked.{run_time, first_ordinary}
 use Rattle.margin_rows.proofs.Placed.{terms_few, weight_there}
@@ -37,20 +38,20 @@ pub part_is : (case : Case) (term : Term) (step w t : ℕ) → w ≡ weight_of c
 part_is case term step w t weight time = rw (weight, time) (sym (chosen term.relay term.relay _ refl))
 
 -- the time of a term's relay as the code reads it
-pub record IsTimeRead (case : Case) (times : List (ℕ × ℕ)) (term : Term) (start step : ℕ) : Type 0 where
+pub record IsTimeRead (case : Case) (times : List Ends) (term : Term) (start step : ℕ) : Type 0 where
   pub within : start + step < length times
-  pub time : get_or times (start + step) (0, 0) ≡ ends (time_at case term.fault term.relay step)
+  pub time : get_or times (start + step) no_time ≡ ends_of (time_at case term.fault term.relay step)
   pub ordinary : IsOrdinary (time_at case term.fault term.relay step)
   pub facts : IsTermOf case term
 
-pub time_read : (case : Case) (times : List (ℕ × ℕ)) (term : Term) (start step : ℕ) → FitsCase case → Contains (terms_in case) term → HoldsRun case times term.fault term.relay start → IsFirstStep case term.relay step
+pub time_read : (case : Case) (times : List Ends) (term : Term) (start step : ℕ) → FitsCase case → Contains (terms_in case) term → HoldsRun case times term.fault term.relay start → IsFirstStep case term.relay step
     → IsTimeRead case times term start step
 time_read case times term start step fits listed run first =
     let used = term_used case term listed in
     let found = run_time case times term.fault term.relay start step used first run in
     record {
       within = slice_get_within times (start + step) _ found;
-      time = get_or_from_slice_get times (start + step) _ (0, 0) found;
+      time = get_or_from_slice_get times (start + step) _ no_time found;
       ordinary = first_ordinary case term.fault term.relay step fits used first;
       facts = term_facts case term listed;
     }
@@ -63,7 +64,7 @@ span_read case spans i n each below is =
     let P : Option (ℕ × ℕ) → Type 0 = λ o. IsFirstSpanOf case i o in
     rw is (slice_get_within spans i found.0 found.1, subst P (sym (get_or_from_slice_get spans i found.0 None found.1)) found.2)
 
-pub run_read : (case : Case) (times : List (ℕ × ℕ)) (terms : List Term) (starts : List ℕ) (number : ℕ) (d : Term) → terms ≡ terms_in case → number < length terms → HoldTermRuns case times starts
+pub run_read : (case : Case) (times : List Ends) (terms : List Term) (starts : List ℕ) (number : ℕ) (d : Term) → terms ≡ terms_in case → number < length terms → HoldTermRuns case times starts
     → HoldsRun case times (get_or terms number d).fault (get_or terms number d).relay (get_or starts number 0)
 run_read case times terms starts number d same below runs =
     let P : Term → Type 0 = λ t. HoldsRun case times t.fault t.relay (get_or starts number 0) in

@@ -1,21 +1,21 @@
 -- The times of a case at settings of the first box.
 use Rattle.std.specs.Prelude.{◌&&◌, ◌==◌, nat_lt, slice_get}
-use Rattle.std.proofs.Common.{◌≡◌, ℕ, ◌^◌, ◌<◌, ◌≤◌, Bool, true, false, cond, List, [], ◌∷◌, Some, arith, refl, subst}
+use Rattle.std.proofs.Common.{◌≡◌, ℕ, ◌+◌, ◌^◌, ◌<◌, ◌≤◌, Bool, true, false, cond, List, [], ◌∷◌, Some, arith, refl, subst}
 use Rattle.std.proofs.lemmas.Option.{slice_get_within, get_or_from_slice_get}
 use Rattle.std.proofs.lemmas.List.Elements.{All-head, All-tail}
 use Rattle.std.specs.List.{All}
 use Rattle.coord_model.specs.Allowed.{Senses}
-use Rattle.coord_model.specs.Enclosure.{IsEnclosable}
-use Rattle.coord_model.specs.Form.{form_of}
+use Rattle.coord_model.specs.Enclosure.{IsEnclosable, width_of}
+use Rattle.coord_model.specs.Form.{form_of, is_custom}
 use Rattle.coord_model.specs.Limits.{FitsStudy, FitsCurrents, FitsCurrent}
-use Rattle.coord_model.specs.PartLimits.{FitsRelay}
+use Rattle.coord_model.specs.PartLimits.{FitsCurve, FitsRelay}
 use Rattle.coord_model.specs.Rows.{amps_at}
 use Rattle.coord_model.specs.StudyData.{StudyData}
 use Rattle.coord_model.specs.Time.{sensed_multiple, capped, IsUnder, IsOver}
 use Rattle.coord_model.specs.declared.study.Current.{Current}
 use Rattle.coord_model.specs.declared.study.Relay.{Relay}
 use Rattle.margin_rows.specs.Case.{Case}
-use Rattle.margin_rows.specs.Times.{relay_time, time_at, IsOrdinary}
+use Rattle.margin_rows.specs.Times.{relay_time, time_at, width_at, IsOrdinary}
 use Rattle.margin_rows.proofs.Curves.{time_keeps, time_is_ordinary}
 use Rattle.margin_rows.proofs.Multiples.{sensed_enclosable}
 
@@ -45,8 +45,10 @@ pub record IsTimedAt (case : Case) (f i step : ℕ) : Type 0 where
 pub record IsEnclosed (case : Case) (f i step : ℕ) : Type 0 where
   pub relay : Relay
   pub found : slice_get case.study.relays i ≡ Some relay
+  pub curve : FitsCurve relay.curve
   pub time : time_at case f i step ≡ relay_time case.study.cap relay step (amps_at case.currents f i)
   pub ordinary : IsOrdinary (time_at case f i step)
+  pub narrow : (time_at case f i step).upper ≤ (time_at case f i step).lower + width_at case i
   pub under : IsUnder (form_of relay.curve) (capped case.study.cap (sensed_multiple relay step (amps_at case.currents f i))) (time_at case f i step).lower (10 ^ 9)
   pub over : IsOver (form_of relay.curve) (capped case.study.cap (sensed_multiple relay step (amps_at case.currents f i))) (time_at case f i step).upper (10 ^ 9)
   pub enclosable : IsEnclosable (capped case.study.cap (sensed_multiple relay step (amps_at case.currents f i)))
@@ -55,6 +57,9 @@ pub record IsEnclosed (case : Case) (f i step : ℕ) : Type 0 where
 pub time_found : (case : Case) (f i step : ℕ) (relay : Relay) → slice_get case.study.relays i ≡ Some relay
     → time_at case f i step ≡ relay_time case.study.cap relay step (amps_at case.currents f i)
 time_found case f i step relay found = rw found refl
+
+width_found : (case : Case) (i : ℕ) (relay : Relay) → slice_get case.study.relays i ≡ Some relay → width_at case i ≡ width_of (is_custom relay.curve) (form_of relay.curve)
+width_found case i relay found = rw found refl
 
 pub enclosed : (case : Case) (f i step : ℕ) → FitsStudy case.study → FitsCurrents case.study case.currents → IsTimedAt case f i step → IsEnclosed case f i step
 enclosed case f i step fits currents timed =
@@ -66,9 +71,11 @@ enclosed case f i step fits currents timed =
     record {
       relay = relay;
       found = timed.found;
+      curve = relay_fits.curve;
       time = is;
-      ordinary = rw is (time_is_ordinary relay.curve _ within);
-      under = rw is (time_keeps relay.curve _ within).under;
-      over = rw is (time_keeps relay.curve _ within).over;
+      ordinary = rw is (time_is_ordinary relay.curve _ relay_fits.curve within);
+      narrow = rw (is, width_found case i relay timed.found) (time_keeps relay.curve _ relay_fits.curve within).narrow;
+      under = rw is (time_keeps relay.curve _ relay_fits.curve within).under;
+      over = rw is (time_keeps relay.curve _ relay_fits.curve within).over;
       enclosable = within;
     }

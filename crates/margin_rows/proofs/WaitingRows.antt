@@ -4,11 +4,12 @@ use Rattle.std.proofs.Common.{◌≡◌, ℕ, ◌+◌, ◌<◌, ◌≤◌, Bool,
 use Rattle.std.specs.List.{filter, flat_map, range_with_len, Contains}
 use Rattle.std.proofs.lemmas.List.{map-append, take_more, append-nil, append_assoc, length-append, take_all}
 use Rattle.std.proofs.lemmas.List.Elements.{filter-append, Contains-get_or}
-use Rattle.coord_model.specs.Rows.{amps_at, is_primary, waits, rows_at, rows_behind}
+use Rattle.coord_model.specs.Rows.{amps_at, is_primary, waits, interval_rows, least_rows, most_rows, rows_at, rows_behind}
 use Rattle.coord_model.specs.Pairs.{backs, pairs_of, pairs_behind, relay_numbers}
 use Rattle.coord_model.specs.StudyData.{StudyData}
 use Rattle.coord_model.specs.declared.study.Pair.{Pair}
 use Rattle.coord_model.specs.declared.study.Row.{Row}
+use Rattle.coord_model.specs.declared.study.RowKind.TheVariants.{Interval}
 use Rattle.margin_rows.specs.Case.{Case, rows_in}
 use Rattle.margin_rows.specs.Waiting.{waits_at, row_from}
 use Rattle.relay_pairs.proofs.Counted.{pieces_more, piece_yes}
@@ -33,10 +34,10 @@ none_either false = refl
 -- the pairs of one primary
 one_primary : (case : Case) (f p : ℕ) (bs : List ℕ)
     → map (row_from f) (filter (waits_at case f) (map (λ b. record { backup = b; primary = p }) (filter (λ b. backs case.study b p) bs)))
-    ≡ cond (is_primary case.study case.currents f p) (map (λ b. record { fault = f; backup = b; primary = p }) (filter (waits case.study case.currents f p) bs)) []
+    ≡ cond (is_primary case.study case.currents f p) (map (λ b. record { kind = Interval; fault = f; backup = b; primary = p }) (filter (waits case.study case.currents f p) bs)) []
 one_primary case f p [] = none_either (is_primary case.study case.currents f p)
 one_primary case f p (b ∷ bs) =
-    kept_pair (λ (b : ℕ). record { backup = b; primary = p }) (waits_at case f) (row_from f) (λ b. record { fault = f; backup = b; primary = p }) b
+    kept_pair (λ (b : ℕ). record { backup = b; primary = p }) (waits_at case f) (row_from f) (λ b. record { kind = Interval; fault = f; backup = b; primary = p }) b
     (filter (λ b. backs case.study b p) bs) (filter (waits case.study case.currents f p) bs) (backs case.study b p) (nat_lt 0 (amps_at case.currents f b)) (is_primary case.study case.currents f p)
     refl refl (one_primary case f p bs)
 
@@ -68,23 +69,25 @@ pair_relays study pair listed =
       omega (arith, ap (λ (q : Pair). q.primary) mapped.2, member_number (length study.relays) p behind.1),
     )
 
--- one pair more: it waits, or it does not
-pub waits_yes : (w : Pair → Bool) (g : Pair → Row) (ps : List Pair) (i : ℕ) (d : Pair) (old base new : List Row) → i < length ps → base ≡ old ++ map g (filter w (take i ps))
-    → w (get_or ps i d) ≡ true → new ≡ base ++ g (get_or ps i d) ∷ [] → new ≡ old ++ map g (filter w (take (i + 1) ps))
-waits_yes w g ps i d old base new below so_far passes pushed =
-    rw (take_more ps i d below, filter-append, map-append, passes)
-    (pushed ∙ ap (λ (t : List Row). t ++ g (get_or ps i d) ∷ []) so_far ∙ append_assoc old (map g (filter w (take i ps))) (g (get_or ps i d) ∷ []))
+-- one element more: it passes the test, or it does not
+pub passes_yes : {A B : Type 0} (w : A → Bool) (g : A → B) (xs : List A) (i : ℕ) (d : A) (old base new : List B) → i < length xs → base ≡ old ++ map g (filter w (take i xs))
+    → w (get_or xs i d) ≡ true → new ≡ base ++ g (get_or xs i d) ∷ [] → new ≡ old ++ map g (filter w (take (i + 1) xs))
+passes_yes {A} {B} w g xs i d old base new below so_far passes pushed =
+    rw (take_more xs i d below, filter-append, map-append, passes)
+    (pushed ∙ ap (λ (t : List B). t ++ g (get_or xs i d) ∷ []) so_far ∙ append_assoc old (map g (filter w (take i xs))) (g (get_or xs i d) ∷ []))
 
-pub waits_no : (w : Pair → Bool) (g : Pair → Row) (ps : List Pair) (i : ℕ) (d : Pair) (old base new : List Row) → i < length ps → base ≡ old ++ map g (filter w (take i ps))
-    → w (get_or ps i d) ≡ false → new ≡ base → new ≡ old ++ map g (filter w (take (i + 1) ps))
-waits_no w g ps i d old base new below so_far fails same =
-    rw (take_more ps i d below, filter-append, map-append, fails, append-nil) (same ∙ so_far)
+pub passes_no : {A B : Type 0} (w : A → Bool) (g : A → B) (xs : List A) (i : ℕ) (d : A) (old base new : List B) → i < length xs → base ≡ old ++ map g (filter w (take i xs))
+    → w (get_or xs i d) ≡ false → new ≡ base → new ≡ old ++ map g (filter w (take (i + 1) xs))
+passes_no w g xs i d old base new below so_far fails same =
+    rw (take_more xs i d below, filter-append, map-append, fails, append-nil) (same ∙ so_far)
 
--- the rows so far are a front of the rows
+-- the interval rows so far are a front of the rows
 pub rows_front : (case : Case) (f : ℕ) → f ≤ length case.study.faults → length (flat_map (rows_at case.study case.currents) (range_with_len 0 f)) ≤ length (rows_in case)
-rows_front case f below = go (length case.study.faults - f) (omega (arith, below))
+rows_front case f below =
+    let front = go (length case.study.faults - f) (omega (arith, below)) in
+    omega (arith, front, length-append (interval_rows case.study case.currents) (least_rows case.study case.currents), length-append (interval_rows case.study case.currents ++ least_rows case.study case.currents) (most_rows case.study case.currents))
   where
-    go : (more : ℕ) → f + more ≡ length case.study.faults → length (flat_map (rows_at case.study case.currents) (range_with_len 0 f)) ≤ length (rows_in case)
+    go : (more : ℕ) → f + more ≡ length case.study.faults → length (flat_map (rows_at case.study case.currents) (range_with_len 0 f)) ≤ length (interval_rows case.study case.currents)
     go more sum = rw (← sum) (grown f more)
       where
         grown : (f more : ℕ) → length (flat_map (rows_at case.study case.currents) (range_with_len 0 f)) ≤ length (flat_map (rows_at case.study case.currents) (range_with_len 0 (f + more)))

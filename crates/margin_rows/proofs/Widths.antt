@@ -19,33 +19,15 @@ use Rattle.coord_model.specs.Cost.{weight_of}
 use Rattle.coord_model.specs.Time.{dial_at}
 use Rattle.coord_model.specs.declared.study.Relay.{Relay}
 use Rattle.coord_model.specs.declared.study.Term.{Term}
-use Rattle.margin_rows.specs.Case.{Case, terms_in, AtTerm}
+use Rattle.margin_rows.specs.Case.{Case, terms_in, term_at}
 use Rattle.margin_rows.specs.FirstBox.{IsFirstSpan, IsInFirstBox}
 use Rattle.margin_rows.specs.Gap.{IsGreatestWidth, IsWidthSum, last_dial, width_part}
 use Rattle.margin_rows.specs.Margin.{time_of}
 use Rattle.margin_rows.specs.Price.{cost_of, lower_cost_of, greatest_part, least_part, greatest_sum, least_sum}
-use Rattle.margin_rows.specs.Times.{time_at, ends, IsOrdinary}
+use Rattle.margin_rows.specs.Times.{time_at, IsOrdinary}
 use Rattle.margin_rows.proofs.Boxed.{pickup_first}
 use Rattle.margin_rows.proofs.Listed.{IsTermOf, term_facts}
-use Rattle.margin_rows.proofs.Placed.{if_some, of_some, term_read, found_listed}
-
--- the term that the code reads
-pub record IsTermHere (case : Case) (number : ℕ) (term : Term) : Type 0 where
-  pub found : slice_get (terms_in case) number ≡ Some term
-  pub facts : IsTermOf case term
-
-pub term_here : (case : Case) (terms : List Term) (i number : ℕ) (d : Term) → terms ≡ terms_in case → i ≡ number → number < length (terms_in case) → IsTermHere case number (get_or terms i d)
-term_here case terms i number d same is below =
-    let found : slice_get (terms_in case) number ≡ Some (get_or terms i d) = term_read case terms i number d same is below in
-    record { found = found; facts = term_facts case (get_or terms i d) (found_listed (terms_in case) number (get_or terms i d) found) }
-
--- the relay of a term is one of the study
-pub term_relay : (case : Case) (term relay : ℕ) → term < length (terms_in case) → AtTerm case term (λ t. relay ≡ t.relay) → relay < length case.study.relays
-term_relay case term relay below fact =
-    let t = get_or (terms_in case) term (record { fault = 0; relay = 0 }) in
-    let found = slice_get-get_or (terms_in case) term (record { fault = 0; relay = 0 }) below in
-    let same = of_some (slice_get (terms_in case) term) (λ x. relay ≡ x.relay) t found fact in
-    omega (arith, same, (term_facts case t (found_listed (terms_in case) term t found)).relay)
+use Rattle.margin_rows.proofs.Placed.{found_listed}
 
 -- the greatest width over the steps from `low` up to, but not including, `past`
 pub record IsWidest (case : Case) (fault relay low past width : ℕ) : Type 0 where
@@ -57,13 +39,11 @@ picked : (a b r : ℕ) → r ≡ ord_max nat_cmp a b → ((a ≤ b) × (r ≡ b)
 picked a b r is = grind (arith, nat_tests)
 
 -- one step more
-widest_more : (case : Case) (fault relay low step width result : ℕ) (time : ℕ × ℕ) → low ≤ step → time ≡ ends (time_at case fault relay step) → IsOrdinary (time_at case fault relay step)
-    → result ≡ ord_max nat_cmp width (time.1 - time.0) → IsWidest case fault relay low step width → IsWidest case fault relay low (step + 1) result
-widest_more case fault relay low step width result time from is ordinary picks so_far =
-    let lower : time.0 ≡ (time_at case fault relay step).lower = ap (λ (p : ℕ × ℕ). p.0) is in
-    let upper : time.1 ≡ (time_at case fault relay step).upper = ap (λ (p : ℕ × ℕ). p.1) is in
+pub widest_more : (case : Case) (fault relay low step width result lower upper : ℕ) → low ≤ step → lower ≡ (time_at case fault relay step).lower → upper ≡ (time_at case fault relay step).upper → IsOrdinary (time_at case fault relay step)
+    → result ≡ ord_max nat_cmp width (upper - lower) → IsWidest case fault relay low step width → IsWidest case fault relay low (step + 1) result
+widest_more case fault relay low step width result lower upper from low_is high_is ordinary picks so_far =
     let ordered = ordinary.ordered in
-    let one = picked width (time.1 - time.0) result picks in
+    let one = picked width (upper - lower) result picks in
     record {
       no_wider = λ s above below. elim (cases_eq s step) [
         | inl same ↦ let T : ℕ → Type 0 = λ k. (time_at case fault relay k).upper ≤ (time_at case fault relay k).lower + result in subst T (sym same) (elim one [ inl w ↦ omega arith | inr w ↦ omega arith ])
@@ -79,42 +59,18 @@ widest_more case fault relay low step width result time from is ordinary picks s
     }
 
 -- the greater of two small widths is small
-picked_small : (case : Case) (fault relay step width result : ℕ) (time : ℕ × ℕ) → time ≡ ends (time_at case fault relay step) → IsOrdinary (time_at case fault relay step)
-    → result ≡ ord_max nat_cmp width (time.1 - time.0) → width < 2 ^ 40 → result < 2 ^ 40
-picked_small case fault relay step width result time is ordinary picks small =
-    let upper : time.1 ≡ (time_at case fault relay step).upper = ap (λ (p : ℕ × ℕ). p.1) is in
+pub picked_small : (case : Case) (fault relay step width result lower upper : ℕ) → upper ≡ (time_at case fault relay step).upper → IsOrdinary (time_at case fault relay step)
+    → result ≡ ord_max nat_cmp width (upper - lower) → width < 2 ^ 40 → result < 2 ^ 40
+picked_small case fault relay step width result lower upper is ordinary picks small =
     let few = ordinary.small in
-    elim (picked width (time.1 - time.0) result picks) [ inl w ↦ omega arith | inr w ↦ omega arith ]
+    elim (picked width (upper - lower) result picks) [ inl w ↦ omega arith | inr w ↦ omega arith ]
 
 -- over the steps of the first box it is the greatest of all
-widest_is_greatest : (case : Case) (fault relay low high past width : ℕ) → IsFirstSpan case relay low high → past ≡ high + 1 → IsWidest case fault relay low past width → IsGreatestWidth case fault relay width
+pub widest_is_greatest : (case : Case) (fault relay low high past width : ℕ) → IsFirstSpan case relay low high → past ≡ high + 1 → IsWidest case fault relay low past width → IsGreatestWidth case fault relay width
 widest_is_greatest case fault relay low high past width span is widest = record {
   no_wider = λ step first. let inside = span.no_other step first in widest.no_wider step inside.0 (omega (arith, inside.1));
   as_wide = elim widest.as_wide [ inl none ↦ inl none | inr there ↦ inr (there.0, span.inside there.0 there.1 (omega (arith, there.2)), there.3) ];
 }
-
--- the same of the term with a number
-module _ (case : Case) (term low : ℕ) (below : term < length (terms_in case)) where
-  pub term_widest_more : (step width result : ℕ) (time : ℕ × ℕ) → low ≤ step → AtTerm case term (λ t. time ≡ ends (time_at case t.fault t.relay step)) → AtTerm case term (λ t. IsOrdinary (time_at case t.fault t.relay step))
-      → result ≡ ord_max nat_cmp width (time.1 - time.0) → width < 2 ^ 40 → AtTerm case term (λ t. IsWidest case t.fault t.relay low step width)
-      → AtTerm case term (λ t. IsWidest case t.fault t.relay low (step + 1) result) × (result < 2 ^ 40)
-  term_widest_more step width result time from is ordinary picks small so_far =
-      let t = get_or (terms_in case) term (record { fault = 0; relay = 0 }) in
-      let found = slice_get-get_or (terms_in case) term (record { fault = 0; relay = 0 }) below in
-      let time_is = of_some (slice_get (terms_in case) term) (λ x. time ≡ ends (time_at case x.fault x.relay step)) t found is in
-      let ordinary_is = of_some (slice_get (terms_in case) term) (λ x. IsOrdinary (time_at case x.fault x.relay step)) t found ordinary in (
-        if_some (slice_get (terms_in case) term) (λ x. IsWidest case x.fault x.relay low (step + 1) result) t found
-            (widest_more case t.fault t.relay low step width result time from time_is ordinary_is picks (of_some (slice_get (terms_in case) term) (λ x. IsWidest case x.fault x.relay low step width) t found so_far)),
-        picked_small case t.fault t.relay step width result time time_is ordinary_is picks small,
-      )
-
-  pub term_greatest : (high past width : ℕ) → AtTerm case term (λ t. IsFirstSpan case t.relay low high) → past ≡ high + 1 → AtTerm case term (λ t. IsWidest case t.fault t.relay low past width)
-      → AtTerm case term (λ t. IsGreatestWidth case t.fault t.relay width)
-  term_greatest high past width span is widest =
-      let t = get_or (terms_in case) term (record { fault = 0; relay = 0 }) in
-      let found = slice_get-get_or (terms_in case) term (record { fault = 0; relay = 0 }) below in
-      if_some (slice_get (terms_in case) term) (λ x. IsGreatestWidth case x.fault x.relay width) t found
-      (widest_is_greatest case t.fault t.relay low high past width (of_some (slice_get (terms_in case) term) (λ x. IsFirstSpan case x.relay low high) t found span) is (of_some (slice_get (terms_in case) term) (λ x. IsWidest case x.fault x.relay low past width) t found widest))
 
 -- there is only one greatest width
 greatest_le : (case : Case) (fault relay a b : ℕ) → IsGreatestWidth case fault relay a → IsGreatestWidth case fault relay b → a ≤ b
@@ -160,11 +116,10 @@ sum_same f g (x ∷ xs) each =
 
 -- one term more
 pub sum_more : (case : Case) (count sum value : ℕ) → count < length (terms_in case) → IsSumOf case count sum
-    → AtTerm case count (λ t. (w : ℕ) × IsGreatestWidth case t.fault t.relay w × (value ≡ weight_of case.study t.fault * last_dial case.study t.relay * w)) → IsSumOf case (count + 1) (sum + value)
-sum_more case count sum value below so_far fact =
+    → (let t : Term = term_at case count in (w : ℕ) × IsGreatestWidth case t.fault t.relay w × (value ≡ weight_of case.study t.fault * last_dial case.study t.relay * w)) → IsSumOf case (count + 1) (sum + value)
+sum_more case count sum value below so_far new =
     let d : Term = record { fault = 0; relay = 0 } in
-    let here = get_or (terms_in case) count d in
-    let new = of_some (slice_get (terms_in case) count) (λ t. (w : ℕ) × IsGreatestWidth case t.fault t.relay w × (value ≡ weight_of case.study t.fault * last_dial case.study t.relay * w)) here (slice_get-get_or (terms_in case) count d below) fact in
+    let here = term_at case count in
     let width = put so_far.width here new.0 in
     let Greatest : Term → Type 0 = λ t. IsGreatestWidth case t.fault t.relay (width t) in
     let earlier : All Greatest (take count (terms_in case)) = λ k e inside. kept new.0 here new.1 (get_or (take count (terms_in case)) k e) (so_far.greatest k e inside) in

@@ -1,6 +1,5 @@
 -- A box (ours): for each relay a span of pickup steps and a span of dial steps.
-use Rattle.std.specs.Prelude.{◌≡◌, ℕ, suc, ◌<◌, ◌≤◌, ◌↔◌, List, length, map, slice_get, slice_index, IfSome, IsSomeAnd}
-use Rattle.std.proofs.Common.{set}
+use Rattle.std.specs.Prelude.{◌≡◌, ℕ, suc, ◌<◌, ◌≤◌, ◌↔◌, ◌⊎◌, List, length, slice_get, slice_index, IfSome, IsSomeAnd}
 use Rattle.coord_model.specs.Choice.{Settings}
 use Rattle.margin_rows.specs.Case.{Case, FitsCase}
 use Rattle.margin_rows.specs.FirstBox.{IsFirstStep}
@@ -21,6 +20,10 @@ pub record IsIn (span : Steps) (step : ℕ) : Type 0 where
 abbrev pub IsEmpty : Steps → Type 0
 IsEmpty span = span.past ≤ span.low
 
+-- the span that stands for no step
+abbrev pub no_steps : Steps
+no_steps = record { low = 0; past = 0 }
+
 -- the span as its first and its last step; of an empty one the first lies above the last
 pub record IsShownAs (span : Steps) (shown : Span) : Type 0 where
   pub steps : span.low < span.past → (shown.lo ≡ span.low) × (suc shown.hi ≡ span.past)
@@ -36,15 +39,15 @@ pub record HasNoEmptySpan (box : Box) : Type 0 where
   pub pickup : (i : ℕ) → IfSome (slice_get box.pickup i) (λ span. span.low < span.past)
   pub dial : (i : ℕ) → IfSome (slice_get box.dial i) (λ span. span.low < span.past)
 
+-- some span of the box is empty
+abbrev pub HasEmptySpan : Box → Type 0
+HasEmptySpan box =
+    ((i : ℕ) × IsSomeAnd (slice_get box.pickup i) IsEmpty) ⊎ ((i : ℕ) × IsSomeAnd (slice_get box.dial i) IsEmpty)
+
 -- the settings lie in the box
 pub record LiesIn (box : Box) (settings : Settings) : Type 0 where
   pub pickup : AreIn box.pickup settings.pickup
   pub dial : AreIn box.dial settings.dial
-
--- the settings have the lowest step of each span
-pub record AreLowest (box : Box) (settings : Settings) : Type 0 where
-  pub pickup : settings.pickup ≡ map (λ span. span.low) box.pickup
-  pub dial : settings.dial ≡ map (λ span. span.low) box.dial
 
 -- the relay has this dial step
 abbrev pub IsDialStep : Case → ℕ → ℕ → Type 0
@@ -63,16 +66,11 @@ pub record IsFilled (case : Case) (box : Box) : Type 0 where
   pub fits : FitsBox case box
   pub steps : HasNoEmptySpan box
 
--- the box is the first: it has each pickup step that is sensible, and each dial step
+-- the box is the first: it has each pickup step that is sensible, and each dial step; `no_steps` stands for none
 pub record IsFirstBox (case : Case) (box : Box) : Type 0 where
   pub pickups : length box.pickup ≡ length case.study.relays
   pub dials : length box.dial ≡ length case.study.relays
+  pub no_pickup : (i : ℕ) → IfSome (slice_get box.pickup i) (λ span. IsEmpty span → span ≡ no_steps)
+  pub no_dial : (i : ℕ) → IfSome (slice_get box.dial i) (λ span. IsEmpty span → span ≡ no_steps)
   pub pickup : (i step : ℕ) → IfSome (slice_get box.pickup i) (λ span. IsIn span step ↔ IsFirstStep case i step)
   pub dial : (i step : ℕ) → IfSome (slice_get box.dial i) (λ span. IsIn span step ↔ IsDialStep case i step)
-
--- the box with another span of pickup steps, or of dial steps, for one relay
-abbrev pub with_pickup : Box → ℕ → Steps → Box
-with_pickup box relay span = record { pickup = set box.pickup relay span; dial = box.dial }
-
-abbrev pub with_dial : Box → ℕ → Steps → Box
-with_dial box relay span = record { pickup = box.pickup; dial = set box.dial relay span }

@@ -1,11 +1,12 @@
 -- A study with its currents: what a coordination is worked out for.
-use Rattle.std.specs.Prelude.{ℕ, ◌≤◌, List, length, IfSome, slice_get}
+use Rattle.std.specs.Prelude.{ℕ, ◌≤◌, List, length, slice_index_or}
 use Rattle.coord_model.specs.Limits.{FitsStudy, FitsCurrents}
 use Rattle.coord_model.specs.Rows.{rows_of, terms_of}
 use Rattle.coord_model.specs.StudyData.{StudyData, study_data, entries_of}
 use Rattle.coord_model.specs.declared.study.Current.{Current}
 use Rattle.coord_model.specs.declared.study.Currents.{Currents}
 use Rattle.coord_model.specs.declared.study.Row.{Row}
+use Rattle.coord_model.specs.declared.study.RowKind.TheVariants.{Interval}
 use Rattle.coord_model.specs.declared.study.Study.{Study}
 use Rattle.coord_model.specs.declared.study.Term.{Term}
 
@@ -26,13 +27,13 @@ rows_in case = rows_of case.study case.currents
 abbrev pub terms_in : Case → List Term
 terms_in case = terms_of case.study case.currents
 
--- the fact holds of the row with this number
-abbrev pub AtRow : Case → ℕ → (Row → Type 0) → Type 0
-AtRow case row P = IfSome (slice_get (rows_in case) row) P
+-- the row with a number below their count
+abbrev pub row_at : Case → ℕ → Row
+row_at case number = slice_index_or (rows_in case) number (record { kind = Interval; fault = 0; backup = 0; primary = 0 })
 
--- the fact holds of the term with this number
-abbrev pub AtTerm : Case → ℕ → (Term → Type 0) → Type 0
-AtTerm case term P = IfSome (slice_get (terms_in case) term) P
+-- the term with a number below their count
+abbrev pub term_at : Case → ℕ → Term
+term_at case number = slice_index_or (terms_in case) number (record { fault = 0; relay = 0 })
 
 -- the case is within the limits
 pub record FitsCase (case : Case) : Type 0 where

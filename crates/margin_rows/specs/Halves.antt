@@ -1,7 +1,9 @@
 -- The two halves of a box, cut between a pickup step of a relay and the next one (ours).
 use Rattle.std.specs.Prelude.{◌≡◌, ℕ, ◌+◌, ◌<◌, ◌≤◌, ◌⊎◌, slice_get, IsSomeAnd}
 use Rattle.coord_model.specs.Choice.{Settings}
-use Rattle.margin_rows.specs.Box.{Box, LiesIn, with_pickup}
+use Rattle.margin_rows.specs.Box.{Box, FitsBox, HasNoEmptySpan, LiesIn}
+use Rattle.margin_rows.specs.Case.{Case}
+use Rattle.margin_rows.specs.Within.{IsWithin, with_pickup}
 use Rattle.margin_rows.specs.declared.span.Steps.{Steps}
 
 -- the span has the step and the next one, so that it can be cut between them
@@ -31,3 +33,9 @@ pub record ShareOut (box lower upper : Box) : Type 0 where
   pub not_both : (settings : Settings) → LiesIn lower settings → ¬ (LiesIn upper settings)
   pub low_within : (settings : Settings) → LiesIn lower settings → LiesIn box settings
   pub high_within : (settings : Settings) → LiesIn upper settings → LiesIn box settings
+
+-- the box is a half of another: within it, with a step in each span if the other has one, and fit for each case that the other fits
+pub record IsHalf (half box : Box) : Type 0 where
+  pub within : IsWithin half box
+  pub steps : HasNoEmptySpan box → HasNoEmptySpan half
+  pub fits : (case : Case) → FitsBox case box → FitsBox case half

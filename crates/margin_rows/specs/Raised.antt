@@ -6,7 +6,8 @@ use Rattle.margin_rows.specs.Box.{IsDialStep}
 use Rattle.margin_rows.specs.Case.{Case, rows_in}
 use Rattle.margin_rows.specs.Dial.{dial_at_step}
 use Rattle.margin_rows.specs.Least.{IsStrict}
-use Rattle.margin_rows.specs.Margin.{interval_ps, MeetsStrictly}
+use Rattle.margin_rows.specs.Demands.{slow_part, fast_part, asked_ps, granted_ps}
+use Rattle.margin_rows.specs.Margin.{MeetsStrictly}
 use Rattle.margin_rows.specs.Times.{time_at}
 use Rattle.margin_rows.specs.declared.least.Rise.{Rise}
 use Rattle.margin_rows.specs.declared.least.Rise.TheVariants.{Kept, Rose, Beyond}
@@ -16,24 +17,27 @@ use Rattle.margin_rows.specs.declared.least.Wait.{Wait}
 pub record IsWaitOf (case : Case) (pickups : List ℕ) (row : Row) (wait : Wait) : Type 0 where
   pub backup : wait.backup ≡ row.backup
   pub primary : wait.primary ≡ row.primary
-  pub backup_time : wait.backup_time ≡ (time_at case row.fault row.backup (slice_index pickups row.backup)).lower
-  pub primary_time : wait.primary_time ≡ (time_at case row.fault row.primary (slice_index pickups row.primary)).upper
+  pub slow_time : wait.slow_time ≡ slow_part row.kind (time_at case row.fault row.backup (slice_index pickups row.backup)).lower
+  pub fast_time : wait.fast_time ≡ fast_part row.kind (time_at case row.fault row.primary (slice_index pickups row.primary)).upper
+  pub asked : wait.asked ≡ asked_ps case.study row
+  pub granted : wait.granted ≡ granted_ps case.study row
 
--- its relays are of the study and its times are above 0 and below 2^40
+-- its relays are of the study, its times below 2^40, and what is asked and granted within the limits
 pub record FitsWait (case : Case) (wait : Wait) : Type 0 where
   pub backup : wait.backup < length case.study.relays
   pub primary : wait.primary < length case.study.relays
-  pub some : 0 < wait.backup_time
-  pub backup_small : wait.backup_time < 2 ^ 40
-  pub primary_small : wait.primary_time < 2 ^ 40
+  pub slow_small : wait.slow_time < 2 ^ 40
+  pub fast_small : wait.fast_time < 2 ^ 40
+  pub asked_small : wait.asked ≤ 10 ^ 14
+  pub granted_small : wait.granted ≤ 2 * 10 ^ 16
 
--- the time at which the backup may operate at the earliest, in picoseconds
+-- the time of the fast relay and what is asked, in picoseconds
 abbrev pub due : Case → List ℕ → Wait → ℕ
-due case dials wait = dial_at_step case.study wait.primary (slice_index dials wait.primary) * wait.primary_time + interval_ps case.study
+due case dials wait = dial_at_step case.study wait.primary (slice_index dials wait.primary) * wait.fast_time + wait.asked
 
--- the backup waits long enough at this dial step
+-- the row is met at this dial step of the slow relay
 abbrev pub Suffices : Case → List ℕ → Wait → ℕ → Type 0
-Suffices case dials wait step = due case dials wait ≤ dial_at_step case.study wait.backup step * wait.backup_time
+Suffices case dials wait step = due case dials wait ≤ dial_at_step case.study wait.backup step * wait.slow_time + wait.granted
 
 -- there is one dial step for each relay, below its count
 pub record AreDialSteps (case : Case) (dials : List ℕ) : Type 0 where

@@ -9,8 +9,10 @@ use Rattle.coord_model.specs.StudyData.{StudyData}
 use Rattle.coord_model.specs.Time.{sensed_multiple}
 use Rattle.coord_model.specs.declared.study.Relay.{Relay}
 use Rattle.coord_model.specs.declared.study.Term.{Term}
+use Rattle.margin_rows.specs.Demands.{demand_of}
 use Rattle.margin_rows.specs.Price.{term_part}
-use Rattle.margin_rows.specs.Times.{time_at, ends, relay_time}
+use Rattle.margin_rows.specs.Times.{time_at, ends_of, relay_time}
+use Rattle.margin_rows.specs.declared.ends.Ends.{Ends}
 use Rattle.margin_rows.specs.declared.runs.RowRuns.{RowRuns}
 use Rattle.margin_rows.specs.declared.runs.Runs.{Runs}
 use Rattle.margin_rows.specs.declared.tables.Tables.{Tables}
@@ -21,21 +23,25 @@ IsTimed case fault relay step =
     IsSomeAnd (slice_get case.study.relays relay) (λ r. (step < r.plug_count) × Senses case.study r step (amps_at case.currents fault relay))
 
 -- the times of the relay at the fault stand in the list from this place on, by pickup step
-pub record HoldsRun (case : Case) (times : List (ℕ × ℕ)) (fault relay start : ℕ) : Type 0 where
-  pub each : (step : ℕ) → IsTimed case fault relay step → slice_get times (start + step) ≡ Some (ends (time_at case fault relay step))
+pub record HoldsRun (case : Case) (times : List Ends) (fault relay start : ℕ) : Type 0 where
+  pub each : (step : ℕ) → IsTimed case fault relay step → slice_get times (start + step) ≡ Some (ends_of (time_at case fault relay step))
 
 -- the later list begins with the earlier one
-abbrev pub Extends : List (ℕ × ℕ) → List (ℕ × ℕ) → Type 0
-Extends old new = (more : List (ℕ × ℕ)) × (new ≡ old ++ more)
+abbrev pub Extends : List Ends → List Ends → Type 0
+Extends old new = (more : List Ends) × (new ≡ old ++ more)
+
+-- what stands for the time of a step that does not sense the current
+abbrev pub no_time : Ends
+no_time = record { lower = 0; upper = 0 }
 
 -- the ends of a relay's time at a pickup step, or zeros where the step does not sense the current
-unfoldable pub cell : StudyData → Relay → ℕ → ℕ → ℕ × ℕ
+unfoldable pub cell : StudyData → Relay → ℕ → ℕ → Ends
 cell study relay amps step =
     let m = sensed_multiple relay step amps in
-    if nat_le (study.sense * m.den) (100 * m.num) then ends (relay_time study.cap relay step amps) else (0, 0)
+    if nat_le (study.sense * m.den) (100 * m.num) then ends_of (relay_time study.cap relay step amps) else no_time
 
 -- those of all pickup steps
-abbrev pub cells : StudyData → Relay → ℕ → List (ℕ × ℕ)
+abbrev pub cells : StudyData → Relay → ℕ → List Ends
 cells study relay amps = map (cell study relay amps) (range_with_len 0 relay.plug_count)
 
 -- each run that has begun holds the times of its fault and relay
@@ -45,12 +51,12 @@ pub record HoldsRuns (case : Case) (runs : Runs) : Type 0 where
       → slice_get runs.starts.items (f * length case.study.relays + r) ≡ Some (Some start) → HoldsRun case runs.times.items f r start
 
 -- the times of each term stand where its number says
-pub record HoldTermRuns (case : Case) (times : List (ℕ × ℕ)) (starts : List ℕ) : Type 0 where
+pub record HoldTermRuns (case : Case) (times : List Ends) (starts : List ℕ) : Type 0 where
   pub count : length starts ≡ length (terms_in case)
   pub each : (k : ℕ) → k < length starts → IsSomeAnd (slice_get (terms_in case) k) (λ term. HoldsRun case times term.fault term.relay (slice_index starts k))
 
 -- the times of the two relays of each row stand where its numbers say
-pub record HoldRowRuns (case : Case) (times : List (ℕ × ℕ)) (starts : List RowRuns) : Type 0 where
+pub record HoldRowRuns (case : Case) (times : List Ends) (starts : List RowRuns) : Type 0 where
   pub count : length starts ≡ length (rows_in case)
   pub each : (k : ℕ) → k < length starts → IsSomeAnd (slice_get (rows_in case) k) (λ row. IsSomeAnd (slice_get starts k) (λ runs. HoldsRun case times row.fault row.backup runs.backup × HoldsRun case times row.fault row.primary runs.primary))
 
@@ -63,6 +69,7 @@ pub record HoldsSums (case : Case) (terms : List Term) (table : List ℕ) : Type
 -- the tables are those of the case
 pub record AreTablesOf (case : Case) (tables : Tables) : Type 0 where
   pub rows : tables.rows.items ≡ rows_in case
+  pub demands : tables.demands.items ≡ map (demand_of case.study) (rows_in case)
   pub terms : tables.terms.items ≡ terms_in case
   pub span_count : length tables.spans.items ≡ length case.study.relays
   pub spans : (i : ℕ) → i < length case.study.relays → IsSomeAnd (slice_get tables.spans.items i) (IsFirstSpanOf case i)

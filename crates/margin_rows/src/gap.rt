@@ -2,7 +2,8 @@
 ghost use Rattle.std.specs.Prelude.{◌≡◌, ℕ, ◌+◌, ◌*◌, ◌^◌, ◌<◌, ◌≤◌, length};
 ghost use Rattle.coord_model.specs.Choice.{Settings};
 ghost use Rattle.coord_model.specs.Cost.{weight_of};
-ghost use Rattle.margin_rows.specs.Case.{terms_in, AtTerm, FitsCase};
+ghost use Rattle.coord_model.specs.declared.study.Term.{Term};
+ghost use Rattle.margin_rows.specs.Case.{terms_in, term_at, FitsCase};
 ghost use Rattle.margin_rows.specs.FirstBox.{IsInFirstBox, IsFirstSpan};
 ghost use Rattle.margin_rows.specs.Gap.{IsGreatestWidth, IsWidthSum, IsLeastGap, last_dial};
 ghost use Rattle.margin_rows.specs.Price.{cost_of, lower_cost_of};
@@ -41,12 +42,11 @@ fn width_sum(inst: &Instance) -> u128
 fn weighted_width(inst: &Instance, term: u16) -> u64
     requires { term < length (terms_in inst.now) }
 
-    ensures exact { AtTerm inst.now term (λ t. (width : ℕ) × IsGreatestWidth inst.now t.fault t.relay width × (result ≡ weight_of inst.now.study t.fault * last_dial inst.now.study t.relay * width)) }
+    ensures exact { let t : Term = term_at inst.now term in (width : ℕ) × IsGreatestWidth inst.now t.fault t.relay width × (result ≡ weight_of inst.now.study t.fault * last_dial inst.now.study t.relay * width) }
     ensures small { result ≤ 16500000000000000000 }
 {
-    let at = inst.terms()[usize::from(term)];
-    let weight = u64::from(inst.study().faults[usize::from(at.fault)].weight);
-    weight * last_dial(inst, at.relay) * greatest_width(inst, term, at.relay)
+    let at = inst.term(term);
+    inst.weight(at.fault) * last_dial(inst, at.relay) * greatest_width(inst, term)
 }
 
 /// The last dial of a relay, in thousandths.
@@ -61,14 +61,13 @@ fn last_dial(inst: &Instance, relay: u16) -> u64
 }
 
 /// The greatest width of the enclosures of a term's relay over its pickup steps in the first box, in nanoseconds.
-fn greatest_width(inst: &Instance, term: u16, relay: u16) -> u64
-    requires term { term < length (terms_in inst.now) }
-    requires relay { AtTerm inst.now term (λ t. relay ≡ t.relay) }
+fn greatest_width(inst: &Instance, term: u16) -> u64
+    requires { term < length (terms_in inst.now) }
 
-    ensures exact { AtTerm inst.now term (λ t. IsGreatestWidth inst.now t.fault t.relay result) }
+    ensures exact { let t : Term = term_at inst.now term in IsGreatestWidth inst.now t.fault t.relay result }
     ensures small { result < 2 ^ 40 }
 {
-    match inst.first_pickups(relay) {
+    match inst.first_pickups(inst.term(term).relay) {
         Some((low, high)) => widest(inst, term, low, high),
         None => 0,
     }
@@ -77,9 +76,9 @@ fn greatest_width(inst: &Instance, term: u16, relay: u16) -> u64
 /// The greatest width of the enclosures of a term's relay over its pickup steps from `low` to `high`.
 fn widest(inst: &Instance, term: u16, low: u16, high: u16) -> u64
     requires term { term < length (terms_in inst.now) }
-    requires span { AtTerm inst.now term (λ t. IsFirstSpan inst.now t.relay low high) }
+    requires span { IsFirstSpan inst.now (term_at inst.now term).relay low high }
 
-    ensures exact { AtTerm inst.now term (λ t. IsGreatestWidth inst.now t.fault t.relay result) }
+    ensures exact { let t : Term = term_at inst.now term in IsGreatestWidth inst.now t.fault t.relay result }
     ensures small { result < 2 ^ 40 }
 {
     let mut greatest = 0;

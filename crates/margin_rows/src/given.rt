@@ -1,5 +1,6 @@
 //! What is given: a study and its currents, with the currents as a table.
 ghost use Rattle.std.specs.Prelude.{◌≡◌, ◌*◌, ◌<◌, ◌≤◌, [], length, All, IfOk};
+ghost use Rattle.coord_model.specs.Cost.{weight_of};
 ghost use Rattle.coord_model.specs.Limits.{FitsStudy, FitsCurrents};
 ghost use Rattle.coord_model.specs.Rows.{amps_at};
 ghost use Rattle.coord_model.specs.StudyData.{study_data, entries_of};
@@ -59,6 +60,15 @@ impl Given {
     {
         let _table = &self.amps;
         &self.study
+    }
+
+    /// The weight of a fault.
+    pub fn weight(&self, fault: u16) -> u64
+        requires { fault < length self.now.study.faults }
+        ensures exact { result ≡ weight_of self.now.study fault }
+        ensures small { result ≤ 1000 }
+    {
+        u64::from(self.study().faults[usize::from(fault)].weight)
     }
 
     /// The current of a relay at a fault, in primary amperes; 0 for none.

@@ -1,20 +1,21 @@
 //! The least dials that strictly meet every row with given pickups.
 //!
-//! They are found from below: all dials begin at the first, and the dial of each backup that does not wait long
-//! enough rises to the least at which it does, until no row asks for more.
-ghost use Rattle.std.specs.Prelude.{◌≡◌, ℕ, ◌*◌, ◌^◌, ◌<◌, ◌≤◌, length, All, IfOk, IfSome, IsSomeAnd, IsTrue, IsFalse};
+//! They are found from below: all dials begin at the first, and the dial of each relay that is too fast for a row rises
+//! to the least at which it is slow enough, until no row asks for more. Where a greatest time is not kept, no dials
+//! keep it, since dials only rise.
+ghost use Rattle.std.specs.Prelude.{◌≡◌, ℕ, ◌*◌, ◌^◌, ◌<◌, ◌≤◌, length, Option, All, IfOk, IfSome, IsSomeAnd, IsTrue, IsFalse};
 ghost use Rattle.std.specs.Option.{option_map};
 ghost use Rattle.coord_model.specs.Choice.{Settings, choice_data};
-ghost use Rattle.coord_model.specs.PartLimits.{FitsRelay};
 ghost use Rattle.coord_model.specs.Time.{dial_at};
 ghost use Rattle.margin_rows.specs.Box.{IsDialStep};
-ghost use Rattle.margin_rows.specs.Case.{rows_in, AtRow, FitsCase};
+ghost use Rattle.margin_rows.specs.Case.{rows_in, row_at};
 ghost use Rattle.margin_rows.specs.Dial.{dial_at_step};
 ghost use Rattle.margin_rows.specs.FirstBox.{IsInFirstBox};
 ghost use Rattle.margin_rows.specs.Least.{AreFirstPickups, IsStrict, IsStrictLeastOf};
 ghost use Rattle.margin_rows.specs.Margin.{MeetsStrictly};
 ghost use Rattle.margin_rows.specs.Raised.{IsWaitOf, FitsWait, due, AreDialSteps, IsRise, AreLow, IsRound};
 
+use crate::demand::{fast_part, slow_part};
 use crate::dial::dial_at;
 use crate::instance::Instance;
 use coord_model::{Choice, NoMemory, Relay};
@@ -29,6 +30,7 @@ pub fn strict_least(
     requires { AreFirstPickups inst.now pickups.now }
 
     ensures exact { IfOk result (λ found. IsStrictLeastOf inst.now pickups.now (option_map choice_data found)) }
+    ensures only { IfOk result (λ found. (other : Option Settings) → IsStrictLeastOf inst.now pickups.now other → other ≡ option_map choice_data found) }
     ensures first_box { IfOk result (λ found. IfSome found (λ choice. IsInFirstBox inst.now (choice_data choice))) }
 {
     let mut dial = vec![in alloc; 0; inst.study().relays.len()]?;
@@ -42,11 +44,11 @@ pub fn strict_least(
 /// What raising dials did.
 #[derive(Clone, Copy)]
 enum Rise {
-    /// Nothing: each backup waits long enough.
+    /// Nothing: what is asked is met.
     Kept,
     /// A dial rose.
     Rose,
-    /// A backup would have to go beyond its last dial.
+    /// No dial of the relay meets it.
     Beyond,
 }
 
@@ -86,15 +88,18 @@ fn raise_round(inst: &Instance, pickups: &[u16], dials: &mut [u16]) -> Rise
     rise
 }
 
-/// What a row asks: that its backup at its least time waits for its primary at its greatest time.
+/// What a row asks of dials: that its slow relay at its least time waits for its fast relay at its greatest time.
 ///
-/// The times are in nanoseconds at dial 1, with given pickups.
+/// The times are in nanoseconds at dial 1, with given pickups; that of a relay which is not asked is 0. What is asked
+/// and granted is in picoseconds.
 #[derive(Clone, Copy)]
 struct Wait {
     backup: u16,
     primary: u16,
-    backup_time: u64,
-    primary_time: u64,
+    slow_time: u64,
+    fast_time: u64,
+    asked: u64,
+    granted: u64,
 }
 
 /// What a row asks with these pickups.
@@ -102,22 +107,24 @@ fn wait_at(inst: &Instance, pickups: &[u16], row: u16) -> Wait
     requires pickups { AreFirstPickups inst.now pickups.now }
     requires row { row < length (rows_in inst.now) }
 
-    ensures exact { AtRow inst.now row (λ r. IsWaitOf inst.now pickups.now r result) }
+    ensures exact { IsWaitOf inst.now pickups.now (row_at inst.now row) result }
     ensures fits { FitsWait inst.now result }
 {
-    let at = inst.rows()[usize::from(row)];
-    let backup_step = pickups[usize::from(at.backup)];
-    let primary_step = pickups[usize::from(at.primary)];
-    let (backup, primary) = inst.row_times(row, backup_step, primary_step);
+    let at = inst.row(row);
+    let backup = inst.backup_time(row, pickups[usize::from(at.backup)]);
+    let primary = inst.primary_time(row, pickups[usize::from(at.primary)]);
+    let demand = inst.demand(row);
     Wait {
         backup: at.backup,
         primary: at.primary,
-        backup_time: backup.0,
-        primary_time: primary.1,
+        slow_time: slow_part(at.kind, backup.lower),
+        fast_time: fast_part(at.kind, primary.upper),
+        asked: demand.asked,
+        granted: demand.granted,
     }
 }
 
-/// Raises the dial of a backup that does not wait long enough to the least at which it does.
+/// Raises the dial of a relay that is too fast for a row to the least at which it is slow enough.
 fn raise(inst: &Instance, dials: &mut [u16], wait: Wait) -> Rise
     requires fits { FitsWait inst.now wait }
     requires steps { AreDialSteps inst.now dials.old }
@@ -126,17 +133,18 @@ fn raise(inst: &Instance, dials: &mut [u16], wait: Wait) -> Rise
 {
     let due = due(inst, dials, wait);
     let place = usize::from(wait.backup);
-    if due <= dial_at(inst, wait.backup, dials[place]) * wait.backup_time {
+    let spent = dial_at(inst, wait.backup, dials[place]) * wait.slow_time + wait.granted;
+    if due <= spent {
         return Rise::Kept;
     }
-    let Some(step) = sufficient_step(inst, wait, due) else {
+    let Some(step) = sufficient_step(inst, wait, due - wait.granted) else {
         return Rise::Beyond;
     };
     dials[place] = step;
     Rise::Rose
 }
 
-/// The time at which the backup may operate at the earliest, in picoseconds.
+/// The time of the fast relay and what is asked, in picoseconds.
 fn due(inst: &Instance, dials: &[u16], wait: Wait) -> u64
     requires fits { FitsWait inst.now wait }
     requires steps { AreDialSteps inst.now dials.now }
@@ -145,18 +153,23 @@ fn due(inst: &Instance, dials: &[u16], wait: Wait) -> u64
     ensures small { result < 2 ^ 55 }
 {
     let dial = dial_at(inst, wait.primary, dials[usize::from(wait.primary)]);
-    dial * wait.primary_time + inst.interval_ps()
+    dial * wait.fast_time + wait.asked
 }
 
-/// The least dial step at which the backup does not operate before a time in picoseconds. `None`: there is none.
-fn sufficient_step(inst: &Instance, wait: Wait, due: u64) -> Option<u16>
-    requires { FitsWait inst.now wait }
+/// The least dial step at which the slow relay does not operate before a time above 0, in picoseconds. `None`: there
+/// is none.
+fn sufficient_step(inst: &Instance, wait: Wait, time: u64) -> Option<u16>
+    requires fits { FitsWait inst.now wait }
+    requires some { 0 < time }
 
-    ensures suffices { IfSome result (λ step. IsDialStep inst.now wait.backup step × (due ≤ dial_at_step inst.now.study wait.backup step * wait.backup_time)) }
-    ensures least { (step : ℕ) → IsDialStep inst.now wait.backup step → due ≤ dial_at_step inst.now.study wait.backup step * wait.backup_time → IsSomeAnd result (λ found. found ≤ step) }
+    ensures suffices { IfSome result (λ step. IsDialStep inst.now wait.backup step × (time ≤ dial_at_step inst.now.study wait.backup step * wait.slow_time)) }
+    ensures least { (step : ℕ) → IsDialStep inst.now wait.backup step → time ≤ dial_at_step inst.now.study wait.backup step * wait.slow_time → IsSomeAnd result (λ found. found ≤ step) }
 {
+    if wait.slow_time == 0 {
+        return None;
+    }
     let relay = &inst.study().relays[usize::from(wait.backup)];
-    step_reaching(relay, due.div_ceil(wait.backup_time))
+    step_reaching(relay, time.div_ceil(wait.slow_time))
 }
 
 /// The least dial step of a relay with at least this dial, in thousandths. `None`: there is none.

@@ -1,65 +1,57 @@
-//! By how much the backup of a row operates later than its primary and the coordination interval.
-ghost use Rattle.std.specs.Prelude.{◌≡◌, ℕ, ◌*◌, ◌^◌, ◌<◌, ◌≤◌, ◌↔◌, pos, ◌≤ℤ◌, length, All, IsTrue};
-ghost use Rattle.coord_model.specs.Allowed.{IsAllowed, KeepsInterval, dial_of};
+//! By how much a choice keeps each row.
+ghost use Rattle.std.specs.Prelude.{◌≡◌, ◌*◌, ◌^◌, ◌<◌, ◌≤◌, ◌↔◌, pos, ◌≤ℤ◌, ◌+ℤ◌, length};
+ghost use Rattle.coord_model.specs.Allowed.{Keeps, dial_of};
 ghost use Rattle.coord_model.specs.Choice.{choice_data};
-ghost use Rattle.margin_rows.specs.Case.{rows_in, AtRow};
+ghost use Rattle.coord_model.specs.declared.study.Row.{Row};
+ghost use Rattle.margin_rows.specs.Case.{rows_in, row_at, FitsCase};
 ghost use Rattle.margin_rows.specs.FirstBox.{IsInFirstBox};
-ghost use Rattle.margin_rows.specs.Margin.{least_ps, greatest_ps, margin, loose_margin, strict_margin, MeetsLoosely, MeetsStrictly};
+ghost use Rattle.margin_rows.specs.Margin.{AreSetEnds, row_width, margin_of, loose_margin, strict_margin, MeetsLoosely, MeetsStrictly};
 
+use crate::demand::{fast_part, slow_part};
 use crate::dial::dial_at;
+use crate::ends::Ends;
 use crate::instance::Instance;
 use coord_model::Choice;
 
-/// The loose margin of a row in picoseconds: the backup at its upper end, the primary at its lower end.
+/// The loose margin of a row in picoseconds: its slow relay at the upper end, its fast relay at the lower end.
 ///
 /// Below 0 no settings with these steps at the row are allowed.
+#[tactic(auto, unfolding(crate::specs::Margin::loose_margin))]
 pub fn loose_row(inst: &Instance, choice: &Choice, row: u16) -> i64
     requires first_box { IsInFirstBox inst.now (choice_data choice.now) }
     requires row { row < length (rows_in inst.now) }
 
-    ensures exact { AtRow inst.now row (λ r. result ≡ loose_margin inst.now (choice_data choice.now) r) }
-    ensures met { AtRow inst.now row (λ r. (pos 0 ≤ℤ result) ↔ MeetsLoosely inst.now (choice_data choice.now) r) }
-    ensures kept { AtRow inst.now row (λ r. KeepsInterval inst.now.study inst.now.currents (choice_data choice.now) r → pos 0 ≤ℤ result) }
+    ensures exact { result ≡ loose_margin inst.now (choice_data choice.now) (row_at inst.now row) }
+    ensures met { (pos 0 ≤ℤ result) ↔ MeetsLoosely inst.now (choice_data choice.now) (row_at inst.now row) }
+    ensures kept { Keeps inst.now.study inst.now.currents (choice_data choice.now) (row_at inst.now row) → pos 0 ≤ℤ result }
 {
     let times = set_times(inst, choice, row);
-    margin(times.backup.1, times.primary.0, inst.interval_ps())
+    row_margin(inst, row, times.backup.upper, times.primary.lower)
 }
 
-/// The strict margin of a row in picoseconds: the backup at its lower end, the primary at its upper end.
+/// The strict margin of a row in picoseconds: its slow relay at the lower end, its fast relay at the upper end.
 ///
-/// At 0 or more the row keeps the coordination interval.
+/// At 0 or more the settings keep the row.
+#[tactic(auto, unfolding(crate::specs::Margin::strict_margin))]
 pub fn strict_row(inst: &Instance, choice: &Choice, row: u16) -> i64
     requires first_box { IsInFirstBox inst.now (choice_data choice.now) }
     requires row { row < length (rows_in inst.now) }
 
-    ensures exact { AtRow inst.now row (λ r. result ≡ strict_margin inst.now (choice_data choice.now) r) }
-    ensures met { AtRow inst.now row (λ r. (pos 0 ≤ℤ result) ↔ MeetsStrictly inst.now (choice_data choice.now) r) }
-    ensures keeps { pos 0 ≤ℤ result → AtRow inst.now row (KeepsInterval inst.now.study inst.now.currents (choice_data choice.now)) }
+    ensures exact { result ≡ strict_margin inst.now (choice_data choice.now) (row_at inst.now row) }
+    ensures met { (pos 0 ≤ℤ result) ↔ MeetsStrictly inst.now (choice_data choice.now) (row_at inst.now row) }
+    // The loose margin lies above it by no more than the widths of the enclosures make.
+    ensures near { loose_margin inst.now (choice_data choice.now) (row_at inst.now row) ≤ℤ (result +ℤ pos (row_width inst.now (choice_data choice.now) (row_at inst.now row))) }
+    ensures keeps { pos 0 ≤ℤ result → Keeps inst.now.study inst.now.currents (choice_data choice.now) (row_at inst.now row) }
 {
     let times = set_times(inst, choice, row);
-    margin(times.backup.0, times.primary.1, inst.interval_ps())
-}
-
-/// Whether a choice strictly meets every row.
-pub fn strict_ok(inst: &Instance, choice: &Choice) -> bool
-    requires { IsInFirstBox inst.now (choice_data choice.now) }
-
-    ensures exact { IsTrue result ↔ All (MeetsStrictly inst.now (choice_data choice.now)) (rows_in inst.now) }
-    ensures allowed { IsTrue result → IsAllowed inst.now.study inst.now.currents (choice_data choice.now) }
-{
-    for row in 0..inst.rows().len() as u16 {
-        if strict_row(inst, choice, row) < 0 {
-            return false;
-        }
-    }
-    true
+    row_margin(inst, row, times.backup.lower, times.primary.upper)
 }
 
 /// The ends of the times of a row's two relays with their settings, in picoseconds.
 #[derive(Clone, Copy)]
 struct SetTimes {
-    backup: (u64, u64),
-    primary: (u64, u64),
+    backup: Ends,
+    primary: Ends,
 }
 
 /// The ends of the times of a row's two relays, in picoseconds.
@@ -67,17 +59,14 @@ fn set_times(inst: &Instance, choice: &Choice, row: u16) -> SetTimes
     requires first_box { IsInFirstBox inst.now (choice_data choice.now) }
     requires row { row < length (rows_in inst.now) }
 
-    ensures backup { AtRow inst.now row (λ r. result.backup ≡ (least_ps inst.now (choice_data choice.now) r.fault r.backup, greatest_ps inst.now (choice_data choice.now) r.fault r.backup)) }
-    ensures primary { AtRow inst.now row (λ r. result.primary ≡ (least_ps inst.now (choice_data choice.now) r.fault r.primary, greatest_ps inst.now (choice_data choice.now) r.fault r.primary)) }
-    ensures backup_small { (result.backup.0 < 2 ^ 54) × (result.backup.1 < 2 ^ 54) }
-    ensures primary_small { (result.primary.0 < 2 ^ 54) × (result.primary.1 < 2 ^ 54) }
+    ensures backup { let r : Row = row_at inst.now row in AreSetEnds inst.now (choice_data choice.now) r.fault r.backup result.backup }
+    ensures primary { let r : Row = row_at inst.now row in AreSetEnds inst.now (choice_data choice.now) r.fault r.primary result.primary }
+    ensures backup_small { (result.backup.lower < 2 ^ 54) × (result.backup.upper < 2 ^ 54) }
+    ensures primary_small { (result.primary.lower < 2 ^ 54) × (result.primary.upper < 2 ^ 54) }
 {
-    let at = inst.rows()[usize::from(row)];
-    let (backup, primary) = inst.row_times(
-        row,
-        choice.pickup[usize::from(at.backup)],
-        choice.pickup[usize::from(at.primary)],
-    );
+    let at = inst.row(row);
+    let backup = inst.backup_time(row, choice.pickup[usize::from(at.backup)]);
+    let primary = inst.primary_time(row, choice.pickup[usize::from(at.primary)]);
     SetTimes {
         backup: at_dial(backup, dial(inst, choice, at.backup)),
         primary: at_dial(primary, dial(inst, choice, at.primary)),
@@ -85,15 +74,18 @@ fn set_times(inst: &Instance, choice: &Choice, row: u16) -> SetTimes
 }
 
 /// The ends of a time at a dial, in picoseconds.
-fn at_dial(time: (u64, u64), dial: u64) -> (u64, u64)
-    requires time { (time.0 < 2 ^ 40) × (time.1 < 2 ^ 40) }
+pub fn at_dial(time: Ends, dial: u64) -> Ends
+    requires time { (time.lower < 2 ^ 40) × (time.upper < 2 ^ 40) }
     requires dial { dial ≤ 15000 }
 
-    ensures lower { result.0 ≡ dial * time.0 }
-    ensures upper { result.1 ≡ dial * time.1 }
-    ensures small { (result.0 < 2 ^ 54) × (result.1 < 2 ^ 54) }
+    ensures lower { result.lower ≡ dial * time.lower }
+    ensures upper { result.upper ≡ dial * time.upper }
+    ensures small { (result.lower < 2 ^ 54) × (result.upper < 2 ^ 54) }
 {
-    (dial * time.0, dial * time.1)
+    Ends {
+        lower: dial * time.lower,
+        upper: dial * time.upper,
+    }
 }
 
 /// The dial of a relay in a choice, in thousandths.
@@ -107,12 +99,17 @@ pub fn dial(inst: &Instance, choice: &Choice, relay: u16) -> u64
     dial_at(inst, relay, choice.dial[usize::from(relay)])
 }
 
-/// What a backup's time leaves over a primary's time and the interval, in picoseconds.
-fn margin(backup: u64, primary: u64, interval: u64) -> i64
+/// What a backup's and a primary's time leave over what a row asks for, in picoseconds.
+pub fn row_margin(inst: &Instance, row: u16, backup: u64, primary: u64) -> i64
+    requires row { row < length (rows_in inst.now) }
     requires backup { backup < 2 ^ 54 }
     requires primary { primary < 2 ^ 54 }
-    requires interval { interval < 2 ^ 54 }
-    ensures { result ≡ margin backup primary interval }
+    ensures exact { result ≡ margin_of inst.now.study (row_at inst.now row) backup primary }
+    ensures fits { FitsCase inst.now }
 {
-    backup as i64 - (primary + interval) as i64
+    let kind = inst.row(row).kind;
+    let demand = inst.demand(row);
+    let slow = slow_part(kind, backup) + demand.granted;
+    let fast = fast_part(kind, primary) + demand.asked;
+    slow as i64 - fast as i64
 }

@@ -2,7 +2,7 @@
 ghost use Rattle.std.specs.Prelude.{◌≡◌, ◌*◌, ◌^◌, ◌<◌, ◌≤◌, length};
 ghost use Rattle.coord_model.specs.Choice.{choice_data};
 ghost use Rattle.coord_model.specs.Cost.{CostsAtLeast, CostsAtMost};
-ghost use Rattle.margin_rows.specs.Case.{terms_in, AtTerm, FitsCase};
+ghost use Rattle.margin_rows.specs.Case.{terms_in, term_at, FitsCase};
 ghost use Rattle.margin_rows.specs.FirstBox.{IsInFirstBox};
 ghost use Rattle.margin_rows.specs.Price.{cost_of, lower_cost_of, greatest_sum, least_sum, greatest_part, least_part};
 
@@ -65,15 +65,14 @@ fn weighted_times(inst: &Instance, choice: &Choice, term: u16) -> (u64, u64)
     requires first_box { IsInFirstBox inst.now (choice_data choice.now) }
     requires term { term < length (terms_in inst.now) }
 
-    ensures least { AtTerm inst.now term (λ t. result.0 ≡ least_part inst.now (choice_data choice.now) t) }
-    ensures greatest { AtTerm inst.now term (λ t. result.1 ≡ greatest_part inst.now (choice_data choice.now) t) }
+    ensures least { result.0 ≡ least_part inst.now (choice_data choice.now) (term_at inst.now term) }
+    ensures greatest { result.1 ≡ greatest_part inst.now (choice_data choice.now) (term_at inst.now term) }
     ensures least_small { result.0 ≤ 16500000000000000000 }
     ensures greatest_small { result.1 ≤ 16500000000000000000 }
 {
-    let at = inst.terms()[usize::from(term)];
+    let at = inst.term(term);
     let time = inst.term_time(term, choice.pickup[usize::from(at.relay)]);
-    let weight = u64::from(inst.study().faults[usize::from(at.fault)].weight);
-    weighted(time, weight, dial(inst, choice, at.relay))
+    weighted(time, inst.weight(at.fault), dial(inst, choice, at.relay))
 }
 
 /// The ends of a time at a dial and a weight, in weighted picoseconds.

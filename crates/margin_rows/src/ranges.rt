@@ -1,10 +1,12 @@
 //! Boxes: for each relay a span of pickup steps and a span of dial steps.
-ghost use Rattle.std.specs.Prelude.{◌≡◌, ℕ, ◌<◌, ◌≤◌, ◌↔◌, length, map, slice_get, IfOk, IfSome, IsTrue, IsSomeAnd};
+ghost use Rattle.std.specs.Prelude.{◌≡◌, ℕ, ◌<◌, ◌≤◌, ◌↔◌, length, map, slice_get, IfOk, IfSome, IsTrue, IsFalse, IsSomeAnd};
 ghost use Rattle.coord_model.specs.Choice.{choice_data};
-ghost use Rattle.margin_rows.specs.Box.{IsShownAs, IsIn, AreIn, IsDialStep, LiesIn, FitsBox, IsFirstBox, with_pickup, with_dial};
+ghost use Rattle.margin_rows.specs.Box.{IsShownAs, IsIn, IsEmpty, AreIn, IsDialStep, LiesIn, FitsBox, IsFirstBox, no_steps};
 ghost use Rattle.margin_rows.specs.Case.{Case, FitsCase};
 ghost use Rattle.margin_rows.specs.FirstBox.{IsFirstStep};
-ghost use Rattle.margin_rows.specs.Halves.{CanSplit, AreHalves, ShareOut};
+ghost use Rattle.margin_rows.specs.Halves.{CanSplit, AreHalves, ShareOut, IsHalf};
+ghost use Rattle.margin_rows.specs.Least.{AreFirstPickups};
+ghost use Rattle.margin_rows.specs.Lowest.{HaveOneStep};
 
 use crate::instance::Instance;
 use crate::span::{Span, Steps, halves, shown};
@@ -28,11 +30,16 @@ impl Model for Ranges {
 }
 
 impl Ranges {
-    ghost use Rattle.margin_rows.specs.Box.{AreLowest, IsShownAs, LiesIn, IsFirstBox, with_pickup, with_dial};
+    ghost use Rattle.margin_rows.specs.Box.{Box, HasEmptySpan, HasNoEmptySpan, IsShownAs, LiesIn, IsFirstBox};
+    ghost use Rattle.margin_rows.specs.Lowest.{HasOnePickup, lowest_of};
+    ghost use Rattle.margin_rows.specs.Within.{IsSpanWithin, IsWithin, span_of, with_pickup, with_dial};
 
     /// The first box: each pickup step that senses the currents that count and clears the load, and each dial step.
     pub fn first(alloc: Global, inst: &Instance) -> Result<Ranges, NoMemory>
         ensures exact { IfOk result (IsFirstBox inst.now) }
+
+        // There is only one first box.
+        ensures only { IfOk result (λ ranges. (other : Box) → IsFirstBox inst.now other → other ≡ ranges) }
         ensures fits { IfOk result (FitsBox inst.now) }
         ensures study { IfOk result (λ _. FitsCase inst.now) }
     {
@@ -61,7 +68,10 @@ impl Ranges {
     /// Leaves a relay the pickup steps from `low` up to, but not including, `past`.
     pub fn set_pickup(&mut self, relay: u16, low: u16, past: u16)
         requires { relay < length self.old.pickup }
-        ensures { self.new ≡ with_pickup self.old relay (record { low = low; past = past }) }
+        ensures exact { self.new ≡ with_pickup self.old relay (record { low = low; past = past }) }
+
+        // A narrower span leaves a box within what it was.
+        ensures within { IsSpanWithin (record { low = low; past = past }) (span_of self.old.pickup relay) → IsWithin self.new self.old }
     {
         self.pickup[usize::from(relay)] = Steps { low, past };
     }
@@ -69,7 +79,10 @@ impl Ranges {
     /// Leaves a relay the dial steps from `low` up to, but not including, `past`.
     pub fn set_dial(&mut self, relay: u16, low: u16, past: u16)
         requires { relay < length self.old.dial }
-        ensures { self.new ≡ with_dial self.old relay (record { low = low; past = past }) }
+        ensures exact { self.new ≡ with_dial self.old relay (record { low = low; past = past }) }
+
+        // A narrower span leaves a box within what it was.
+        ensures within { IsSpanWithin (record { low = low; past = past }) (span_of self.old.dial relay) → IsWithin self.new self.old }
     {
         self.dial[usize::from(relay)] = Steps { low, past };
     }
@@ -81,9 +94,33 @@ impl Ranges {
         all_in(&self.pickup, &choice.pickup) && all_in(&self.dial, &choice.dial)
     }
 
+    /// Whether pickups are one for each relay, and each in its span.
+    pub fn holds_pickups(&self, pickups: &[u16]) -> bool
+        ensures exact { IsTrue result ↔ AreIn self.now.pickup pickups.now }
+        ensures first { IsTrue result → (case : Case) → FitsBox case self.now → AreFirstPickups case pickups.now }
+    {
+        all_in(&self.pickup, pickups)
+    }
+
+    /// Whether some span has no step.
+    pub fn has_empty_span(&self) -> bool
+        ensures empty { IsTrue result → HasEmptySpan self.now }
+        ensures steps { IsFalse result → HasNoEmptySpan self.now }
+    {
+        lack_step(&self.pickup) || lack_step(&self.dial)
+    }
+
+    /// Whether each pickup span has one step.
+    pub fn has_one_pickup(&self) -> bool
+        ensures { IsTrue result ↔ HasOnePickup self.now }
+    {
+        have_one_step(&self.pickup)
+    }
+
     /// The choice of the lowest step of each span.
     pub fn lowest(&self) -> Result<Choice, NoMemory>
-        ensures { IfOk result (λ choice. AreLowest self.now (choice_data choice)) }
+        ensures exact { IfOk result (λ choice. choice_data choice ≡ lowest_of self.now) }
+        ensures lies { IfOk result (λ choice. HasNoEmptySpan self.now → LiesIn self.now (choice_data choice)) }
     {
         Ok(Choice {
             pickup: lows(&self.pickup)?,
@@ -119,15 +156,34 @@ impl Ranges {
 
         ensures exact { IfOk result (λ halves. AreHalves self.now relay at halves.0 halves.1) }
         ensures shared { IfOk result (λ halves. ShareOut self.now halves.0 halves.1) }
-        ensures low_fits { IfOk result (λ halves. (case : Case) → FitsBox case self.now → FitsBox case halves.0) }
-        ensures high_fits { IfOk result (λ halves. (case : Case) → FitsBox case self.now → FitsBox case halves.1) }
+        ensures low { IfOk result (λ halves. IsHalf halves.0 self.now) }
+        ensures high { IfOk result (λ halves. IsHalf halves.1 self.now) }
     {
-        let (low, high) = halves(self.pickup[usize::from(relay)], at);
-        let mut lower = self.copy()?;
-        let mut upper = self.copy()?;
-        lower.set_pickup(relay, low.low, low.past);
-        upper.set_pickup(relay, high.low, high.past);
-        Ok((lower, upper))
+        let mut low = self.copy()?;
+        let mut high = self.copy()?;
+        low.cut(relay, at, &mut high);
+        Ok((low, high))
+    }
+
+    /// Cuts the box between a pickup step of a relay and the next one: it becomes the low half, `high` the high half.
+    ///
+    /// What `high` was before doesn't count, but for its number of relays. It takes no memory.
+    pub fn cut(&mut self, relay: u16, at: u16, high: &mut Ranges)
+        requires relay { relay < length self.old.pickup }
+        requires at { CanSplit self.old relay at }
+        requires pickups { length high.old.pickup ≡ length self.old.pickup }
+        requires dials { length high.old.dial ≡ length self.old.dial }
+
+        ensures exact { AreHalves self.old relay at self.new high.new }
+        ensures shared { ShareOut self.old self.new high.new }
+        ensures low { IsHalf self.new self.old }
+        ensures high { IsHalf high.new self.old }
+    {
+        let (lower, upper) = halves(self.pickup[usize::from(relay)], at);
+        high.pickup.copy_from_slice(&self.pickup);
+        high.dial.copy_from_slice(&self.dial);
+        self.set_pickup(relay, lower.low, lower.past);
+        high.set_pickup(relay, upper.low, upper.past);
     }
 }
 
@@ -153,11 +209,29 @@ fn all_in(spans: &[Steps], steps: &[u16]) -> bool
             .all(|(span, step)| span.low <= *step && *step < span.past)
 }
 
+/// Whether one of the spans has no step.
+fn lack_step(spans: &[Steps]) -> bool
+    ensures empty { IsTrue result → (i : ℕ) × IsSomeAnd (slice_get spans.now i) IsEmpty }
+    ensures steps { IsFalse result → (i : ℕ) → IfSome (slice_get spans.now i) (λ span. span.low < span.past) }
+{
+    spans.iter().any(|span| span.past <= span.low)
+}
+
+/// Whether each span has one step.
+fn have_one_step(spans: &[Steps]) -> bool
+    ensures { IsTrue result ↔ HaveOneStep spans.now }
+{
+    spans
+        .iter()
+        .all(|span| span.low < span.past && span.past - span.low == 1)
+}
+
 /// The pickup spans of the first box.
 fn first_pickups(alloc: Global, inst: &Instance) -> Result<Vec<Steps>, NoMemory>
     ensures study { IfOk result (λ _. FitsCase inst.now) }
     ensures count { IfOk result (λ spans. length spans.items ≡ length inst.now.study.relays) }
     ensures each { IfOk result (λ spans. (i step : ℕ) → IfSome (slice_get spans.items i) (λ span. IsIn span step ↔ IsFirstStep inst.now i step)) }
+    ensures none { IfOk result (λ spans. (i : ℕ) → IfSome (slice_get spans.items i) (λ span. IsEmpty span → span ≡ no_steps)) }
 {
     let relays = inst.study().relays.len() as u16;
     let mut spans = Vec::new(alloc);
@@ -171,7 +245,8 @@ fn first_pickups(alloc: Global, inst: &Instance) -> Result<Vec<Steps>, NoMemory>
 fn first_steps(inst: &Instance, relay: u16) -> Steps
     requires fits { FitsCase inst.now }
     requires relay { relay < length inst.now.study.relays }
-    ensures { (step : ℕ) → IsIn result step ↔ IsFirstStep inst.now relay step }
+    ensures exact { (step : ℕ) → IsIn result step ↔ IsFirstStep inst.now relay step }
+    ensures none { IsEmpty result → result ≡ no_steps }
 {
     match inst.first_pickups(relay) {
         Some((low, high)) => Steps {
@@ -186,6 +261,7 @@ fn first_steps(inst: &Instance, relay: u16) -> Steps
 fn first_dials(alloc: Global, inst: &Instance) -> Result<Vec<Steps>, NoMemory>
     ensures count { IfOk result (λ spans. length spans.items ≡ length inst.now.study.relays) }
     ensures each { IfOk result (λ spans. (i step : ℕ) → IfSome (slice_get spans.items i) (λ span. IsIn span step ↔ IsDialStep inst.now i step)) }
+    ensures none { IfOk result (λ spans. (i : ℕ) → IfSome (slice_get spans.items i) (λ span. IsEmpty span → span ≡ no_steps)) }
 {
     let mut spans = Vec::new(alloc);
     for relay in inst.study().relays.as_slice() {

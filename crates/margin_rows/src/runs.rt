@@ -6,9 +6,10 @@ ghost use Rattle.coord_model.specs.PartLimits.{FitsRelay};
 ghost use Rattle.coord_model.specs.StudyData.{study_data};
 ghost use Rattle.margin_rows.specs.Case.{rows_in, terms_in};
 ghost use Rattle.margin_rows.specs.Tables.{cell, cells, Extends, HoldsRun, HoldsRuns, HoldTermRuns, HoldRowRuns};
-ghost use Rattle.margin_rows.specs.Times.{relay_time, ends};
+ghost use Rattle.margin_rows.specs.Times.{relay_time, ends_of};
 
 use crate::enclose::enclose;
+use crate::ends::Ends;
 use crate::given::Given;
 use crate::spans::{plug, senses};
 use coord_model::{NoMemory, Relay, Row, Study, Term};
@@ -24,7 +25,7 @@ pub struct RowRuns {
 /// The times, one run after another, and where the run of each fault and relay begins, once it is there.
 #[derive(Drop)]
 pub struct Runs {
-    pub times: Vec<(u64, u64)>,
+    pub times: Vec<Ends>,
     pub starts: Vec<Option<usize>>,
 }
 
@@ -122,12 +123,7 @@ fn run_of(given: &Given, fault: u16, relay: u16, runs: &mut Runs) -> Result<usiz
 }
 
 /// Adds the times of a relay at a current, by pickup step.
-fn push_run(
-    study: &Study,
-    relay: &Relay,
-    amps: u32,
-    times: &mut Vec<(u64, u64)>,
-) -> Result<(), NoMemory>
+fn push_run(study: &Study, relay: &Relay, amps: u32, times: &mut Vec<Ends>) -> Result<(), NoMemory>
     requires study { FitsStudy (study_data study.now) }
     requires relay { FitsRelay (study_data study.now) relay.now }
     requires amps { amps ≤ 100000 }
@@ -140,7 +136,7 @@ fn push_run(
 }
 
 /// The ends of a relay's time at a pickup step and a current; 0 where the step does not sense the current.
-fn time(study: &Study, relay: &Relay, step: u16, amps: u32) -> (u64, u64)
+fn time(study: &Study, relay: &Relay, step: u16, amps: u32) -> Ends
     requires study { FitsStudy (study_data study.now) }
     requires relay { FitsRelay (study_data study.now) relay.now }
     requires step { step < relay.now.plug_count }
@@ -150,18 +146,18 @@ fn time(study: &Study, relay: &Relay, step: u16, amps: u32) -> (u64, u64)
     if senses(study, relay, step, amps) {
         sensed_time(study, relay, step, amps)
     } else {
-        (0, 0)
+        Ends { lower: 0, upper: 0 }
     }
 }
 
 /// The ends of a relay's time at a pickup step that senses the current.
-fn sensed_time(study: &Study, relay: &Relay, step: u16, amps: u32) -> (u64, u64)
+fn sensed_time(study: &Study, relay: &Relay, step: u16, amps: u32) -> Ends
     requires study { FitsStudy (study_data study.now) }
     requires relay { FitsRelay (study_data study.now) relay.now }
     requires step { step < relay.now.plug_count }
     requires amps { amps ≤ 100000 }
     requires sensed { Senses (study_data study.now) relay.now step amps }
-    ensures { result ≡ ends (relay_time study.now.cap relay.now step amps) }
+    ensures { result ≡ ends_of (relay_time study.now.cap relay.now step amps) }
 {
     let num = 100 * u64::from(amps) * u64::from(relay.ct_secondary);
     let den = plug(relay, step) * u64::from(relay.ct_primary);

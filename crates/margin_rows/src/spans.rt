@@ -1,5 +1,5 @@
 //! The pickup steps of the first box: those that sense each current that counts, and clear the load.
-ghost use Rattle.std.specs.Prelude.{◌≡◌, ℕ, ◌<◌, ◌≤◌, ◌↔◌, length, All, Contains, IfOk, IsTrue, IsSomeAnd, slice_get};
+ghost use Rattle.std.specs.Prelude.{◌≡◌, ℕ, ◌<◌, ◌≤◌, ◌↔◌, length, Contains, IfOk, IsTrue, IsSomeAnd, slice_get};
 ghost use Rattle.coord_model.specs.Allowed.{Senses, ClearsLoad, IsUsed};
 ghost use Rattle.coord_model.specs.Limits.{FitsStudy};
 ghost use Rattle.coord_model.specs.PartLimits.{FitsRelay};

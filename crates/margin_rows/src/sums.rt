@@ -5,6 +5,7 @@ ghost use Rattle.margin_rows.specs.FirstBox.{IsFirstStep, IsFirstSpanOf};
 ghost use Rattle.margin_rows.specs.Price.{term_part};
 ghost use Rattle.margin_rows.specs.Tables.{HoldsRun, HoldsSums, HoldTermRuns};
 
+use crate::ends::Ends;
 use crate::given::Given;
 use coord_model::{NoMemory, Term};
 use std::alloc::Global;
@@ -25,7 +26,7 @@ pub fn term_sums(
     given: &Given,
     terms: &[Term],
     spans: &[Option<(u16, u16)>],
-    times: &[(u64, u64)],
+    times: &[Ends],
     starts: &[usize],
 ) -> Result<Vec<u64>, NoMemory>
     requires fits { FitsCase given.now }
@@ -44,7 +45,7 @@ fn add_terms(
     given: &Given,
     terms: &[Term],
     spans: &[Option<(u16, u16)>],
-    times: &[(u64, u64)],
+    times: &[Ends],
     starts: &[usize],
     sums: &mut [u64],
 )
@@ -66,7 +67,7 @@ fn add_term(
     given: &Given,
     term: Term,
     span: Option<(u16, u16)>,
-    times: &[(u64, u64)],
+    times: &[Ends],
     start: usize,
     sums: &mut [u64],
 )
@@ -87,7 +88,7 @@ fn add_term(
 }
 
 /// The weighted time of a term's relay at a pickup step.
-fn weighted_time(given: &Given, term: Term, times: &[(u64, u64)], start: usize, step: u16) -> u64
+fn weighted_time(given: &Given, term: Term, times: &[Ends], start: usize, step: u16) -> u64
     requires fits { FitsCase given.now }
     requires term { Contains (terms_in given.now) term }
     requires run { HoldsRun given.now times.now term.fault term.relay start }
@@ -95,6 +96,6 @@ fn weighted_time(given: &Given, term: Term, times: &[(u64, u64)], start: usize, 
     ensures exact { result ≡ term_part given.now term.relay step term }
     ensures small { result ≤ 2 ^ 50 }
 {
-    let lower = times[start + usize::from(step)].0;
-    u64::from(given.study().faults[usize::from(term.fault)].weight) * lower
+    let lower = times[start + usize::from(step)].lower;
+    given.weight(term.fault) * lower
 }

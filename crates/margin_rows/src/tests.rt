@@ -1,11 +1,12 @@
 //! Studies that are worked out by hand: curve B takes 13.5/(M - 1) seconds at the multiple of pickup M and dial 1.
 ghost use Rattle.std.specs.Prelude.{◌≤◌, IfOk, IfSome};
 ghost use Rattle.coord_model.specs.Choice.{choice_data};
+ghost use Rattle.coord_model.specs.PartLimits.{FitsCurve};
 ghost use Rattle.margin_rows.specs.FirstBox.{IsInFirstBox};
 
 use crate::fault::BuildFault;
 use crate::{Instance, Ranges, cost, loose_row, lower_cost, strict_ok, strict_row};
-use coord_model::{Choice, CurveName, NoMemory, Row, Term};
+use coord_model::{Choice, CurveName, NoMemory, Row, RowKind, Term};
 use std::alloc::Global;
 
 mod boxes;
@@ -49,6 +50,7 @@ fn a_curve_of_the_fiftieth_root_lies_between_near_ends(rt: HostRuntime) -> Resul
 fn a_row_is_met_exactly(rt: HostRuntime) -> Result<(), BuildFault> {
     let inst = two_lines(rt.alloc(), 20)?;
     let rows = [Row {
+        kind: RowKind::Interval,
         fault: 0,
         backup: 0,
         primary: 1,
@@ -56,7 +58,7 @@ fn a_row_is_met_exactly(rt: HostRuntime) -> Result<(), BuildFault> {
     assert!(rt; inst.rows() == rows.as_slice());
     let terms = [Term { fault: 0, relay: 1 }, Term { fault: 1, relay: 0 }];
     assert!(rt; inst.terms() == terms.as_slice());
-    let seen = seen_at(rt.alloc(), &inst, 4)?;
+    let seen = seen_at(rt.alloc(), &inst, 4, 0)?;
     assert!(rt;
         seen == Some(Seen {
             loose: 0,
@@ -72,12 +74,29 @@ fn a_row_is_met_exactly(rt: HostRuntime) -> Result<(), BuildFault> {
 // At multiple 8 the multiplier is 13.5/7 s: dials 0.280 and 0.140 lie 270 ms apart in truth, but not at the lower end.
 #[test]
 fn a_row_is_met_by_a_hair(rt: HostRuntime) -> Result<(), BuildFault> {
-    let inst = one_fault(rt.alloc(), 2)?;
-    let seen = seen_at(rt.alloc(), &inst, 1)?;
+    let inst = one_fault(rt.alloc(), 2, 0)?;
+    let seen = seen_at(rt.alloc(), &inst, 1, 0)?;
     assert!(rt;
         seen == Some(Seen {
             loose: 200,
             strict: -220,
+            ok: false,
+            cost: 270_001,
+            lower_cost: 269_999
+        })
+    );
+    Ok(())
+}
+
+// The same with 270 ms as the primary's least time, at dial 0.140.
+#[test]
+fn a_least_time_is_met_by_a_hair(rt: HostRuntime) -> Result<(), BuildFault> {
+    let inst = one_fault(rt.alloc(), 2, 270)?;
+    let seen = seen_at(rt.alloc(), &inst, 1, 1)?;
+    assert!(rt;
+        seen == Some(Seen {
+            loose: 60,
+            strict: -80,
             ok: false,
             cost: 270_001,
             lower_cost: 269_999
@@ -116,7 +135,7 @@ fn a_load_can_leave_no_step(rt: HostRuntime) -> Result<(), BuildFault> {
     Ok(())
 }
 
-/// What the calls answer for a choice at the first row.
+/// What the calls answer for a choice at a row.
 #[derive(Clone, Copy, PartialEq, Eq, Debug)]
 struct Seen {
     loose: i64,
@@ -127,19 +146,19 @@ struct Seen {
 }
 
 /// What the calls answer at the lowest choice, with the dial of relay 0 at a step.
-fn seen_at(alloc: Global, inst: &Instance, step: u16) -> Result<Option<Seen>, NoMemory> {
+fn seen_at(alloc: Global, inst: &Instance, step: u16, row: u16) -> Result<Option<Seen>, NoMemory> {
     let Some(choice) = lowest(alloc, inst)? else {
         return Ok(None);
     };
     let Some(choice) = with_dial(inst, choice, 0, step) else {
         return Ok(None);
     };
-    if inst.rows().is_empty() {
+    if usize::from(row) >= inst.rows().len() {
         return Ok(None);
     }
     Ok(Some(Seen {
-        loose: loose_row(inst, &choice, 0),
-        strict: strict_row(inst, &choice, 0),
+        loose: loose_row(inst, &choice, row),
+        strict: strict_row(inst, &choice, row),
         ok: strict_ok(inst, &choice),
         cost: cost(inst, &choice),
         lower_cost: lower_cost(inst, &choice),
@@ -175,7 +194,8 @@ fn with_dial(inst: &Instance, mut choice: Choice, relay: u16, step: u16) -> Opti
 
 /// The ends of the time of a relay with pickup 100 A at a current.
 fn time(alloc: Global, curve: CurveName, amps: u32) -> Result<Option<(u64, u64)>, BuildFault>
-    requires { amps ≤ 100000 }
+    requires curve { FitsCurve curve }
+    requires amps { amps ≤ 100000 }
 {
     let inst = one_line(alloc, curve, 100, 0, amps)?;
     Ok(first_time(&inst))
@@ -183,12 +203,10 @@ fn time(alloc: Global, curve: CurveName, amps: u32) -> Result<Option<(u64, u64)>
 
 /// The ends of the time of the first term's relay, with its lowest pickup.
 fn first_time(inst: &Instance) -> Option<(u64, u64)> {
-    let terms = inst.terms();
-    if terms.is_empty() {
+    if inst.terms().is_empty() {
         return None;
     }
-    let relay = terms[0].relay;
-    let (low, _high) = inst.first_pickups(relay)?;
+    let (low, _high) = inst.first_pickups(inst.term(0).relay)?;
     Some(inst.term_time(0, low))
 }
 

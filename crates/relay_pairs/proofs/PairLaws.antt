@@ -37,7 +37,7 @@ both_there study None p rest holds = absurd (cc)
 both_there study (Some x) None rest holds = absurd (cc)
 both_there study (Some x) (Some y) rest holds = ((x, refl), (y, refl))
 
-backing_relays : (study : StudyData) (b p : ℕ) → backs study b p ≡ true → (b < length study.relays) × (p < length study.relays)
+pub backing_relays : (study : StudyData) (b p : ℕ) → backs study b p ≡ true → (b < length study.relays) × (p < length study.relays)
 backing_relays study b p backing =
     let there = both_there study (slice_get study.relays b) (slice_get study.relays p) _ backing in
     (slice_get_within study.relays b there.0.0 there.0.1, slice_get_within study.relays p there.1.0 there.1.1)
@@ -53,29 +53,29 @@ listed_where_backing study pair = (
 
 -- ---- in order
 
-none_apart : {X : Type 0} (R : X → X → Type 0) → let none : List X = [] in AllPairs R none
+pub none_apart : {X : Type 0} (R : X → X → Type 0) → let none : List X = [] in AllPairs R none
 none_apart R i j d before below = absurd (omega (arith, below))
 
-all_after : {X : Type 0} (R : X → X → Type 0) (x : X) (xs : List X) → AllPairs R (x ∷ xs) → All (R x) xs
+pub all_after : {X : Type 0} (R : X → X → Type 0) (x : X) (xs : List X) → AllPairs R (x ∷ xs) → All (R x) xs
 all_after R x xs apart k d below = apart zero (suc k) d (omega arith) (omega (arith, below))
 
-pairs_after : {X : Type 0} (R : X → X → Type 0) (x : X) (xs : List X) → AllPairs R (x ∷ xs) → AllPairs R xs
+pub pairs_after : {X : Type 0} (R : X → X → Type 0) (x : X) (xs : List X) → AllPairs R (x ∷ xs) → AllPairs R xs
 pairs_after R x xs apart i j d before below = apart (suc i) (suc j) d (omega (arith, before)) (omega (arith, below))
 
-pairs_mapped : {X Y : Type 0} (R : Y → Y → Type 0) (f : X → Y) (xs : List X) → AllPairs (λ x y. R (f x) (f y)) xs → AllPairs R (map f xs)
+pub pairs_mapped : {X Y : Type 0} (R : Y → Y → Type 0) (f : X → Y) (xs : List X) → AllPairs (λ x y. R (f x) (f y)) xs → AllPairs R (map f xs)
 pairs_mapped R f [] apart = none_apart R
 pairs_mapped R f (x ∷ xs) apart =
     AllPairs-cons R (f x) (map f xs) (All-map (R (f x)) f xs (all_after (λ x y. R (f x) (f y)) x xs apart))
     (pairs_mapped R f xs (pairs_after (λ x y. R (f x) (f y)) x xs apart))
 
-pairs_joined : {X : Type 0} (R : X → X → Type 0) (xs ys : List X) → AllPairs R xs → AllPairs R ys → ((x y : X) → Contains xs x → Contains ys y → R x y) → AllPairs R (xs ++ ys)
+pub pairs_joined : {X : Type 0} (R : X → X → Type 0) (xs ys : List X) → AllPairs R xs → AllPairs R ys → ((x y : X) → Contains xs x → Contains ys y → R x y) → AllPairs R (xs ++ ys)
 pairs_joined R [] ys first second across = second
 pairs_joined R (x ∷ xs) ys first second across =
     AllPairs-cons R x (xs ++ ys)
     (All-append (R x) xs ys (all_after R x xs first) (λ k d below. across x (get_or ys k d) (member_here x x xs refl) (Contains-get_or ys k d below)))
     (pairs_joined R xs ys (pairs_after R x xs first) second (λ u v u_in v_in. across u v (member_there x u xs u_in) v_in))
 
-numbers_ascend : (n : ℕ) → AllPairs (λ (a b : ℕ). a < b) (range_with_len 0 n)
+pub numbers_ascend : (n : ℕ) → AllPairs (λ (a b : ℕ). a < b) (range_with_len 0 n)
 numbers_ascend n i j d before below =
     let second : j < n = omega (arith, below, length-range_with_len 0 n) in
     omega (arith, before, get_or-range_with_len 0 n i d (omega (arith, before, second)), get_or-range_with_len 0 n j d second)
@@ -85,20 +85,20 @@ behind_in_order study p =
     pairs_mapped ComesBefore (pair_with p) (filter (λ b. backs study b p) (relay_numbers study))
     (λ i j d before below. inr (refl, AllPairs-filter (λ (a b : ℕ). a < b) (λ b. backs study b p) (relay_numbers study) (numbers_ascend (length study.relays)) i j d before below))
 
-pieces_in_order : (study : StudyData) (ps : List ℕ) → AllPairs (λ (a b : ℕ). a < b) ps → AllPairs ComesBefore (flat_map (pairs_behind study) ps)
-pieces_in_order study [] ascend = none_apart ComesBefore
-pieces_in_order study (p ∷ ps) ascend =
-    pairs_joined ComesBefore (pairs_behind study p) (flat_map (pairs_behind study) ps) (behind_in_order study p)
-    (pieces_in_order study ps (pairs_after (λ (a b : ℕ). a < b) p ps ascend)) across
-  where
-    across : (x y : Pair) → Contains (pairs_behind study p) x → Contains (flat_map (pairs_behind study) ps) y → ComesBefore x y
-    across x y x_in y_in =
-        let piece = member_flat_map (pairs_behind study) ps y y_in in
-        let later : p < piece.0 = All-contains (λ q. p < q) ps piece.0 (all_after (λ (a b : ℕ). a < b) p ps ascend) piece.1 in
-        inl (omega (arith, later, (is_behind study p x x_in).primary, (is_behind study piece.0 y piece.2).primary))
+-- joined pieces are in order, if each is and those of an earlier number come before those of a later one
+pub pieces_joined : {X : Type 0} (R : X → X → Type 0) (f : ℕ → List X) (ns : List ℕ) → AllPairs (λ (a b : ℕ). a < b) ns → ((n : ℕ) → AllPairs R (f n))
+    → ((n m : ℕ) → n < m → (x y : X) → Contains (f n) x → Contains (f m) y → R x y) → AllPairs R (flat_map f ns)
+pieces_joined R f [] ascend each across = none_apart R
+pieces_joined R f (n ∷ ns) ascend each across =
+    pairs_joined R (f n) (flat_map f ns) (each n) (pieces_joined R f ns (pairs_after (λ (a b : ℕ). a < b) n ns ascend) each across)
+    (λ x y x_in y_in.
+    let piece = member_flat_map f ns y y_in in
+    across n piece.0 (All-contains (λ m. n < m) ns piece.0 (all_after (λ (a b : ℕ). a < b) n ns ascend) piece.1) x y x_in piece.2)
 
 pub pairs_in_order : (study : StudyData) → AllPairs ComesBefore (pairs_of study)
-pairs_in_order study = pieces_in_order study (relay_numbers study) (numbers_ascend (length study.relays))
+pairs_in_order study =
+    pieces_joined ComesBefore (pairs_behind study) (relay_numbers study) (numbers_ascend (length study.relays)) (behind_in_order study)
+    (λ p q later x y x_in y_in. inl (omega (arith, later, (is_behind study p x x_in).primary, (is_behind study q y y_in).primary)))
 
 -- ---- each once
 

@@ -53,6 +53,7 @@ fn parallel_lines(alloc: Global, exempt: &[Exempt]) -> Result<Study, NoMemory>
         relay(2, 1),
     ];
     Ok(Study {
+        format: 1,
         cti_ms: 300,
         sense: 110,
         cap: 20,
@@ -62,6 +63,7 @@ fn parallel_lines(alloc: Global, exempt: &[Exempt]) -> Result<Study, NoMemory>
         relays: Vec::from_slice(alloc, &relays)?,
         faults: Vec::new(alloc),
         exempt: Vec::from_slice(alloc, exempt)?,
+        intervals: Vec::new(alloc),
     })
 }
 
@@ -79,6 +81,7 @@ fn relay(line: u16, bus: u16) -> Relay
     ensures { result ≡ record result {
       line = line;
       bus = bus;
+      curve = CurveName.IecB;
       ct_primary = 100;
       ct_secondary = 1;
       plug_first = 100;
@@ -88,6 +91,8 @@ fn relay(line: u16, bus: u16) -> Relay
       dial_step = 50;
       dial_count = 20;
       load_amps = 0;
+      least_ms = 0;
+      most_ms = 0;
     } }
 {
     Relay {
@@ -104,6 +109,8 @@ fn relay(line: u16, bus: u16) -> Relay
         dial_step: 50,
         dial_count: 20,
         load_amps: 0,
+        least_ms: 0,
+        most_ms: 0,
     }
 }
 

@@ -18,10 +18,19 @@ fn a_box_is_split_between_two_pickups(rt: HostRuntime) -> Result<(), BuildFault>
     assert!(rt; spans(&inst, &lower) == Some(((0, 0), (0, 0))));
     assert!(rt; spans(&inst, &upper) == Some(((1, 1), (0, 0))));
     assert!(rt; halves(&inst, &upper)?.is_none());
-    let lowest = first.lowest()?;
-    assert!(rt; first.holds(&lowest));
-    assert!(rt; lower.holds(&lowest));
-    assert!(rt; !upper.holds(&lowest));
+    assert!(rt; first.holds_pickups(&[1]) && !lower.holds_pickups(&[1]));
+    assert!(rt; lower.has_one_pickup() && !first.has_one_pickup());
+    Ok(())
+}
+
+#[test]
+fn a_box_is_cut_into_another(rt: HostRuntime) -> Result<(), BuildFault> {
+    let inst = one_line(rt.alloc(), CurveName::IecB, 100, 0, 1_000)?;
+    let mut low = Ranges::first(rt.alloc(), &inst)?;
+    let mut high = low.copy()?;
+    assert!(rt; cut(&inst, &mut low, &mut high));
+    assert!(rt; spans(&inst, &low) == Some(((0, 0), (0, 0))));
+    assert!(rt; spans(&inst, &high) == Some(((1, 1), (0, 0))));
     Ok(())
 }
 
@@ -29,8 +38,12 @@ fn a_box_is_split_between_two_pickups(rt: HostRuntime) -> Result<(), BuildFault>
 fn a_copy_is_narrowed_alone(rt: HostRuntime) -> Result<(), BuildFault> {
     let inst = one_line(rt.alloc(), CurveName::IecB, 100, 0, 1_000)?;
     let first = Ranges::first(rt.alloc(), &inst)?;
-    assert!(rt; narrowed(&inst, first.copy()?) == Some(((1, 1), (1, 0))));
+    let lowest = first.lowest()?;
+    let mut other = first.copy()?;
+    narrow(&inst, &mut other);
     assert!(rt; spans(&inst, &first) == Some(((0, 1), (0, 0))));
+    assert!(rt; first.holds(&lowest) && !other.holds(&lowest));
+    assert!(rt; other.has_empty_span() && !first.has_empty_span());
     Ok(())
 }
 
@@ -57,16 +70,26 @@ fn halves(inst: &Instance, ranges: &Ranges) -> Result<Option<(Ranges, Ranges)>, 
     Ok(Some(ranges.split(0, 0)?))
 }
 
-/// The spans of a box that is left relay 0's pickup step 1 and no dial.
-fn narrowed(inst: &Instance, mut ranges: Ranges) -> Option<((u16, u16), (u16, u16))>
-    requires { FitsBox inst.now ranges }
+/// Cuts a box above relay 0's pickup step 0 into it and another, and says whether it can.
+fn cut(inst: &Instance, low: &mut Ranges, high: &mut Ranges) -> bool
+    requires low { FitsBox inst.now low.old }
+    requires high { FitsBox inst.now high.old }
+    ensures low { FitsBox inst.now low.new }
+    ensures high { FitsBox inst.now high.new }
+{
+    if inst.study().relays.is_empty() || !low.can_split(0, 0) {
+        return false;
+    }
+    low.cut(0, 0, high);
+    true
+}
+
+/// Leaves relay 0 no dial, if there is a relay.
+fn narrow(inst: &Instance, ranges: &mut Ranges)
+    requires { FitsBox inst.now ranges.old }
 {
     if inst.study().relays.is_empty() {
-        return None;
+        return;
     }
-    ranges.set_pickup(0, 1, 2);
     ranges.set_dial(0, 0, 0);
-    let pickup = ranges.pickup(0);
-    let dial = ranges.dial(0);
-    Some(((pickup.lo, pickup.hi), (dial.lo, dial.hi)))
 }

@@ -16,7 +16,7 @@ fn exact_times_leave_a_gap_of_one(rt: HostRuntime) -> Result<(), BuildFault> {
 // 13.5/7 s lies between two nanoseconds: 280 picoseconds at the last dial.
 #[test]
 fn a_width_is_rounded_up(rt: HostRuntime) -> Result<(), BuildFault> {
-    let inst = one_fault(rt.alloc(), 2)?;
+    let inst = one_fault(rt.alloc(), 2, 0)?;
     assert_eq!(rt; least_gap(&inst), 2);
     Ok(())
 }

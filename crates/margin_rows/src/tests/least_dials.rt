@@ -1,9 +1,9 @@
 //! The strict-least dials of studies that are worked out by hand.
 use super::lowest;
-use super::studies::{one_fault, two_lines};
+use super::studies::{one_fault, two_lines, two_lines_limited};
 use crate::fault::BuildFault;
-use crate::{Instance, dial_at, strict_least};
-use coord_model::NoMemory;
+use crate::{Instance, dial_at, strict_least, strict_row};
+use coord_model::{NoMemory, Row, RowKind};
 use std::alloc::Global;
 
 // 0.250 * 1.5 - 0.050 * 1.5 is 0.300 s, exactly the interval; with dials up to 0.200 the row can't be met.
@@ -20,9 +20,66 @@ fn the_backup_rises_to_the_interval(rt: HostRuntime) -> Result<(), BuildFault> {
 #[test]
 fn a_row_met_by_a_hair_asks_for_the_next_dial(rt: HostRuntime) -> Result<(), BuildFault> {
     let alloc = rt.alloc();
-    assert!(rt; least_dials(alloc, &one_fault(alloc, 2)?)? == None);
-    assert!(rt; least_dials(alloc, &one_fault(alloc, 3)?)? == Some((2, 0)));
+    assert!(rt; least_dials(alloc, &one_fault(alloc, 2, 0)?)? == None);
+    assert!(rt; least_dials(alloc, &one_fault(alloc, 3, 0)?)? == Some((2, 0)));
     Ok(())
+}
+
+// At dial 0.050 the second relay takes 75 ms, at 0.100 it takes 150 ms; the first takes 300 ms at 0.200 and 187.5 ms at its
+// own fault and 0.250.
+#[test]
+fn limits_and_a_pairs_own_interval_raise_the_dials(rt: HostRuntime) -> Result<(), BuildFault> {
+    for (own, least, most, dials) in &[
+        (225, 0, 0, Some((3, 0))),
+        (300, 100, 0, Some((5, 1))),
+        (300, 0, 150, None),
+        (225, 100, 187, None),
+        (225, 100, 188, Some((4, 1))),
+    ] {
+        let inst = two_lines_limited(rt.alloc(), *own, *least, *most)?;
+        assert!(rt; least_dials(rt.alloc(), &inst)? == *dials);
+    }
+    Ok(())
+}
+
+// 0.100 * 1.5 s and 0.250 * 1.5 s lie exactly 225 ms apart; 150 ms is 50 ms above 100, and 0.250 * 0.75 s is 37.5 ms below
+// 225.
+#[test]
+fn each_kind_of_row_has_its_constant_and_its_margin(rt: HostRuntime) -> Result<(), BuildFault> {
+    let inst = two_lines_limited(rt.alloc(), 225, 100, 225)?;
+    let rows = [
+        row(RowKind::Interval, 0, 0, 1),
+        row(RowKind::Least, 0, 1, 1),
+        row(RowKind::Most, 1, 0, 0),
+    ];
+    assert!(rt; inst.rows() == rows.as_slice());
+    assert!(rt; least_margin(rt.alloc(), &inst, 0)? == Some((225_000_000_000, 0)));
+    assert!(rt; least_margin(rt.alloc(), &inst, 1)? == Some((100_000_000_000, 50_000_000_000)));
+    assert!(rt; least_margin(rt.alloc(), &inst, 2)? == Some((-225_000_000_000, 37_500_000_000)));
+    Ok(())
+}
+
+/// A row's constant, and its strict margin with the strict-least choice of the lowest pickups, in picoseconds.
+fn least_margin(alloc: Global, inst: &Instance, row: u16) -> Result<Option<(i64, i64)>, NoMemory> {
+    let Some(lowest) = lowest(alloc, inst)? else {
+        return Ok(None);
+    };
+    let Some(choice) = strict_least(alloc, inst, lowest.pickup.as_slice())? else {
+        return Ok(None);
+    };
+    if usize::from(row) >= inst.rows().len() {
+        return Ok(None);
+    }
+    Ok(Some((inst.row_constant(row), strict_row(inst, &choice, row))))
+}
+
+fn row(kind: RowKind, fault: u16, backup: u16, primary: u16) -> Row {
+    Row {
+        kind,
+        fault,
+        backup,
+        primary,
+    }
 }
 
 #[test]

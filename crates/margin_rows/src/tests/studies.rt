@@ -1,12 +1,14 @@
 //! The studies that the tests use, and their currents.
 ghost use Rattle.std.specs.Prelude.{◌≡◌, ◌<◌, ◌≤◌, All, IfOk, length};
 ghost use Rattle.coord_model.specs.Limits.{FitsStudy};
-ghost use Rattle.coord_model.specs.PartLimits.{IsBetween};
+ghost use Rattle.coord_model.specs.PartLimits.{FitsCurve, IsBetween};
 ghost use Rattle.coord_model.specs.StudyData.{study_data, entries_of};
 
 use crate::fault::BuildFault;
 use crate::{Instance, build};
-use coord_model::{Current, Currents, CurveName, Fault, Line, Name, NoMemory, Relay, Study};
+use coord_model::{
+    Current, Currents, CurveName, Fault, Line, Name, NoMemory, PairInterval, Relay, Study,
+};
 use std::alloc::Global;
 
 fn name() -> Name {
@@ -35,6 +37,8 @@ fn relay(
       dial_step = dial;
       dial_count = dial_count;
       load_amps = load_amps;
+      least_ms = 0;
+      most_ms = 0;
     } }
 {
     Relay {
@@ -51,6 +55,8 @@ fn relay(
         dial_step: dial,
         dial_count,
         load_amps,
+        least_ms: 0,
+        most_ms: 0,
     }
 }
 
@@ -60,13 +66,47 @@ pub fn two_lines(alloc: Global, dial_count: u32) -> Result<Instance, BuildFault>
 {
     build(
         alloc,
-        two_lines_study(alloc, dial_count)?,
+        two_lines_study(alloc, dial_count, 0, 0, &[])?,
         two_lines_currents(alloc)?,
     )
 }
 
-fn two_lines_study(alloc: Global, dial_count: u32) -> Result<Study, NoMemory>
-    requires { IsBetween 1 dial_count 20 }
+/// The same two lines with an interval of the pair's own, a least time of the second relay and a greatest time of the
+/// first, in milliseconds.
+pub fn two_lines_limited(
+    alloc: Global,
+    own_ms: u32,
+    least_ms: u32,
+    most_ms: u32,
+) -> Result<Instance, BuildFault>
+    requires own { IsBetween 1 own_ms 1000 }
+    requires least { least_ms ≤ 1000 }
+    requires most { most_ms ≤ 1000 }
+{
+    let own = [PairInterval {
+        backup: 0,
+        primary: 1,
+        cti_ms: own_ms,
+    }];
+    build(
+        alloc,
+        two_lines_study(alloc, 20, least_ms, most_ms, &own)?,
+        two_lines_currents(alloc)?,
+    )
+}
+
+fn two_lines_study(
+    alloc: Global,
+    dial_count: u32,
+    least_ms: u32,
+    most_ms: u32,
+    own: &[PairInterval],
+) -> Result<Study, NoMemory>
+    requires dials { IsBetween 1 dial_count 20 }
+    requires least { least_ms ≤ 1000 }
+    requires most { most_ms ≤ 1000 }
+    requires few { length own.now ≤ 1 }
+    requires own { All (λ own. (own.backup < 2) × (own.primary < 2) × IsBetween 1 own.cti_ms 1000) own.now }
     ensures fits { IfOk result (λ study. FitsStudy (study_data study)) }
     ensures faults { IfOk result (λ study. length study.faults.items ≡ 2) }
     ensures relays { IfOk result (λ study. length study.relays.items ≡ 2) }
@@ -84,8 +124,14 @@ fn two_lines_study(alloc: Global, dial_count: u32) -> Result<Study, NoMemory>
         },
     ];
     let relays = [
-        relay(0, 100, 1, 50, dial_count, 0),
-        relay(1, 100, 1, 50, 20, 0),
+        Relay {
+            most_ms,
+            ..relay(0, 100, 1, 50, dial_count, 0)
+        },
+        Relay {
+            least_ms,
+            ..relay(1, 100, 1, 50, 20, 0)
+        },
     ];
     let faults = [
         Fault {
@@ -100,6 +146,7 @@ fn two_lines_study(alloc: Global, dial_count: u32) -> Result<Study, NoMemory>
         },
     ];
     Ok(Study {
+        format: 1,
         cti_ms: 300,
         sense: 110,
         cap: 20,
@@ -109,6 +156,7 @@ fn two_lines_study(alloc: Global, dial_count: u32) -> Result<Study, NoMemory>
         relays: Vec::from_slice(alloc, &relays)?,
         faults: Vec::from_slice(alloc, &faults)?,
         exempt: Vec::new(alloc),
+        intervals: Vec::from_slice(alloc, own)?,
     })
 }
 
@@ -139,19 +187,21 @@ fn two_lines_currents(alloc: Global) -> Result<Currents, NoMemory>
 }
 
 /// The same two lines with an interval of 270 ms, dials 0.140 and 0.280, and a fault on the second line alone. The
-/// first relay has `dial_count` dials.
-pub fn one_fault(alloc: Global, dial_count: u32) -> Result<Instance, BuildFault>
-    requires { IsBetween 1 dial_count 20 }
+/// first relay has `dial_count` dials, the second a least time in milliseconds.
+pub fn one_fault(alloc: Global, dial_count: u32, least_ms: u32) -> Result<Instance, BuildFault>
+    requires dials { IsBetween 1 dial_count 20 }
+    requires least { least_ms ≤ 1000 }
 {
     build(
         alloc,
-        one_fault_study(alloc, dial_count)?,
+        one_fault_study(alloc, dial_count, least_ms)?,
         one_fault_currents(alloc)?,
     )
 }
 
-fn one_fault_study(alloc: Global, dial_count: u32) -> Result<Study, NoMemory>
-    requires { IsBetween 1 dial_count 20 }
+fn one_fault_study(alloc: Global, dial_count: u32, least_ms: u32) -> Result<Study, NoMemory>
+    requires dials { IsBetween 1 dial_count 20 }
+    requires least { least_ms ≤ 1000 }
     ensures fits { IfOk result (λ study. FitsStudy (study_data study)) }
     ensures faults { IfOk result (λ study. length study.faults.items ≡ 1) }
     ensures relays { IfOk result (λ study. length study.relays.items ≡ 2) }
@@ -170,9 +220,13 @@ fn one_fault_study(alloc: Global, dial_count: u32) -> Result<Study, NoMemory>
     ];
     let relays = [
         relay(0, 100, 1, 140, dial_count, 0),
-        relay(1, 100, 1, 140, 2, 0),
+        Relay {
+            least_ms,
+            ..relay(1, 100, 1, 140, 2, 0)
+        },
     ];
     Ok(Study {
+        format: 1,
         cti_ms: 270,
         sense: 110,
         cap: 20,
@@ -189,6 +243,7 @@ fn one_fault_study(alloc: Global, dial_count: u32) -> Result<Study, NoMemory>
             }],
         )?,
         exempt: Vec::new(alloc),
+        intervals: Vec::new(alloc),
     })
 }
 
@@ -221,6 +276,7 @@ pub fn one_line(
     load_amps: u32,
     amps: u32,
 ) -> Result<Instance, BuildFault>
+    requires curve { FitsCurve curve }
     requires plug_step { IsBetween 1 plug_step 100 }
     requires load { load_amps ≤ 500 }
     requires amps { amps ≤ 100000 }
@@ -238,6 +294,7 @@ fn one_line_study(
     plug_step: u32,
     load_amps: u32,
 ) -> Result<Study, NoMemory>
+    requires curve { FitsCurve curve }
     requires plug_step { IsBetween 1 plug_step 100 }
     requires load { load_amps ≤ 500 }
     ensures fits { IfOk result (λ study. FitsStudy (study_data study)) }
@@ -249,6 +306,7 @@ fn one_line_study(
         ..relay(0, plug_step, 2, 50, 1, load_amps)
     };
     Ok(Study {
+        format: 1,
         cti_ms: 300,
         sense: 110,
         cap: 20,
@@ -272,6 +330,7 @@ fn one_line_study(
             }],
         )?,
         exempt: Vec::new(alloc),
+        intervals: Vec::new(alloc),
     })
 }
 
@@ -320,6 +379,7 @@ fn two_faults_study(alloc: Global) -> Result<Study, NoMemory>
         },
     ];
     Ok(Study {
+        format: 1,
         cti_ms: 300,
         sense: 110,
         cap: 20,
@@ -329,6 +389,7 @@ fn two_faults_study(alloc: Global) -> Result<Study, NoMemory>
         relays: Vec::from_slice(alloc, &[relay(0, 100, 2, 50, 1, 0)])?,
         faults: Vec::from_slice(alloc, &faults)?,
         exempt: Vec::new(alloc),
+        intervals: Vec::new(alloc),
     })
 }
 

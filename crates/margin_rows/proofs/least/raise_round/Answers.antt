@@ -1,12 +1,9 @@
 use Rattle.std.proofs.Common.{ℕ, List, ap, arith, length, slice_index, subst, sym}
-use Rattle.std.specs.Prelude.{slice_get}
 use Rattle.coord_model.specs.declared.study.Row.{Row}
-use Rattle.margin_rows.specs.Case.{rows_in}
-use Rattle.margin_rows.specs.Margin.{MeetsStrictly}
-use Rattle.margin_rows.specs.Raised.{IsWaitOf, AreLow}
-use Rattle.margin_rows.proofs.Placed.{if_some, of_some}
-use Rattle.margin_rows.proofs.Raising.{row_here, wait_meets, strict_suffices, raised_low, raised_sum, so_far_kept, so_far_rose, round_done}
-use Rattle.margin_rows.proofs.Written.{in_list}
+use Rattle.margin_rows.specs.Case.{row_at}
+use Rattle.margin_rows.specs.Raised.{AreLow}
+use Rattle.margin_rows.proofs.Listed.{at_number}
+use Rattle.margin_rows.proofs.Raising.{wait_meets, strict_suffices, raised_low, raised_sum, so_far_kept, so_far_rose, round_done}
 use Rattle.margin_rows.proofs.least.raise_round.Goals as goal
 use Rattle.margin_rows.proofs.least.raise_round.Goals.{in-Kept, in-Rose}
 
@@ -16,28 +13,26 @@ overflow_cast-row-end c = omega (arith, ap (λ (rs : List Row). length rs) c.row
 pub returns-in-Beyond : goal.returns-in-Beyond
 returns-in-Beyond c other strict =
     let case = c.args.inst.now in
-    let there = in_list (rows_in case) c.loop-row.row (omega (arith, c.loop-row-test.true, ap (λ (rs : List Row). length rs) c.rows.ensures.value)) in
-    let is = of_some (slice_get (rows_in case) c.loop-row.row) (λ r. IsWaitOf case c.args.pickups.now r c.wait_at.result) there.0 there.1 c.wait_at.ensures.exact in
-    let enough = strict_suffices case c.args.pickups.now c.loop-row.dials c.loop-row.row there.0 c.wait_at.result other (row_here case c.loop-row.row there.0 there.1) is c.loop-row.invariant.low strict in
+    let listed = at_number case c.loop-row.row (omega (arith, c.loop-row-test.true, ap (λ (rs : List Row). length rs) c.rows.ensures.value)) in
+    let enough = strict_suffices case c.args.pickups.now c.loop-row.dials (row_at case c.loop-row.row) c.wait_at.result other listed c.wait_at.ensures.exact c.loop-row.invariant.low strict in
     c.in-Beyond.ensures (slice_index other.dial c.wait_at.result.backup) enough.0 enough.1
 
 pub loop-row-preserved : goal.loop-row-preserved
 loop-row-preserved c =
     let case = c.args.inst.now in
     let pickups = c.args.pickups.now in
-    let there = in_list (rows_in case) c.loop-row.row (omega (arith, c.loop-row-test.true, ap (λ (rs : List Row). length rs) c.rows.ensures.value)) in
-    let here = row_here case c.loop-row.row there.0 there.1 in
-    let is = of_some (slice_get (rows_in case) c.loop-row.row) (λ r. IsWaitOf case pickups r c.wait_at.result) there.0 there.1 c.wait_at.ensures.exact in
+    let row = row_at case c.loop-row.row in
+    let listed = at_number case c.loop-row.row (omega (arith, c.loop-row-test.true, ap (λ (rs : List Row). length rs) c.rows.ensures.value)) in
     elim c.match-raise.branch [
       | in-Kept w ↦
           let Low : List ℕ → Type 0 = λ ds. AreLow case pickups ds in
-          let met = if_some (slice_get (rows_in case) c.loop-row.row) (MeetsStrictly case (record { pickup = pickups; dial = c.loop-row.dials })) there.0 there.1 (wait_meets case pickups c.loop-row.dials there.0 c.wait_at.result is w.in-Kept.ensures.1) in
+          let met = wait_meets case pickups c.loop-row.dials row c.wait_at.result c.wait_at.ensures.exact w.in-Kept.ensures.1 in
           record {
             low = subst Low (sym w.in-Kept.ensures.0) c.loop-row.invariant.low;
             so_far = rw w.rise-is (so_far_kept case pickups c.args.dials.now c.loop-row.dials c.raise.new.dials c.loop-row.row c.loop-row.rise w.in-Kept.ensures.0 met c.loop-row.invariant.so_far);
           }
       | in-Rose w ↦ record {
-        low = raised_low case pickups c.loop-row.dials c.raise.new.dials c.loop-row.row there.0 c.wait_at.result c.wait_at.ensures.fits here is c.loop-row.invariant.low w.in-Rose.ensures;
+        low = raised_low case pickups c.loop-row.dials c.raise.new.dials row c.wait_at.result c.wait_at.ensures.fits listed c.wait_at.ensures.exact c.loop-row.invariant.low w.in-Rose.ensures;
         so_far = rw w.rise-is (so_far_rose case pickups c.args.dials.now c.loop-row.dials c.raise.new.dials c.loop-row.row c.loop-row.rise
             (raised_sum case c.wait_at.result c.loop-row.dials c.raise.new.dials c.wait_at.ensures.fits c.loop-row.invariant.low.on_steps w.in-Rose.ensures) c.loop-row.invariant.so_far);
       }

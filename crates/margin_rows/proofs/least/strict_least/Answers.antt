@@ -1,11 +1,11 @@
-use Rattle.std.proofs.Common.{arith, ap, List, ℕ, length, ◌≡◌, refl, subst, sym, ◌∙◌}
+use Rattle.std.proofs.Common.{arith, ap, List, ℕ, length, ◌≡◌, Some, refl, subst, sym, ◌∙◌}
 use Rattle.std.proofs.lemmas.List.{with_items_is}
 use Rattle.std.specs.Vec.{with_items}
 use Rattle.coord_model.specs.Choice.{choice_data}
 use Rattle.coord_model.specs.StudyData.{StudyData}
 use Rattle.margin_rows.specs.Least.{IsStrictLeast}
 use Rattle.margin_rows.specs.Raised.{AreLow}
-use Rattle.margin_rows.proofs.Raising.{first_low, low_is_least, least_in_first_box}
+use Rattle.margin_rows.proofs.Raising.{first_low, low_is_least, least_in_first_box, one_least}
 use Rattle.margin_rows.proofs.least.strict_least.Goals as goal
 use Rattle.margin_rows.proofs.least.strict_least.Goals.{In_ok-pickup}
 
@@ -33,3 +33,6 @@ returns-clause-exact c = least c
 
 pub returns-clause-first_box : goal.returns-clause-first_box
 returns-clause-first_box c = least_in_first_box c.args.inst.now c.args.pickups.now _ c.requires (least c)
+
+pub returns-clause-only : goal.returns-clause-only
+returns-clause-only c other is = one_least c.args.inst.now c.args.pickups.now (Some _) other (least c) is

@@ -1,38 +1,24 @@
 use Rattle.std.specs.Prelude.{ℤ, pos, ◌≤ℤ◌}
 use mir.Syntax.{w64}
 use mir.Val.{SFits}
-use Rattle.std.proofs.Common.{sym, ◌≡◌, ℕ, subst, refl, rules}
+use Rattle.std.proofs.Common.{◌∙◌, ℕ, ap, subst, sym, rules}
 use Rattle.std.proofs.lemmas.Int.{to_z-of_z}
-use Rattle.coord_model.specs.Allowed.{KeepsInterval}
 use Rattle.coord_model.specs.Choice.{choice_data}
-use Rattle.margin_rows.specs.Margin.{least_ps, greatest_ps, interval_ps, margin, loose_margin}
+use Rattle.margin_rows.specs.Case.{row_at}
+use Rattle.margin_rows.specs.Margin.{greatest_ps, margin_of}
 use Rattle.margin_rows.proofs.Boxed.{row_meets}
-use Rattle.margin_rows.proofs.Placed.{at_row, margin_sign}
+use Rattle.margin_rows.proofs.Listed.{at_number}
+use Rattle.margin_rows.proofs.Placed.{margin_sign}
 use Rattle.margin_rows.proofs.margin.loose_row.Goals as goal
 
-exact_is : (a b : ℕ × ℕ) (low_a high_a low_b high_b i interval : ℕ) (result : ℤ) → result ≡ margin a.1 b.0 i → i ≡ interval → a ≡ (low_a, high_a) → b ≡ (low_b, high_b) → result ≡ margin high_a low_b interval
-exact_is a b low_a high_a low_b high_b i interval result is same first second = rw (is, same, first, second) refl
-
-pub returns-clause-exact : goal.returns-clause-exact
-unfolding loose_margin
-returns-clause-exact c =
-    let case = c.args.inst.now in
-    let settings = choice_data c.args.choice.now in
-    let fits : SFits w64 c.margin.result = search rules in
-    let value = to_z-of_z w64 c.margin.result fits in
-    rw value (at_row case c.args.row (λ r. c.set_times-times.result.backup ≡ (least_ps case settings r.fault r.backup, greatest_ps case settings r.fault r.backup))
-    (λ r. c.set_times-times.result.primary ≡ (least_ps case settings r.fault r.primary, greatest_ps case settings r.fault r.primary)) (λ r. c.margin.result ≡ loose_margin case settings r)
-    c.set_times-times.ensures.backup c.set_times-times.ensures.primary
-    (λ r listed backup primary. exact_is c.set_times-times.result.backup c.set_times-times.result.primary _ _ _ _ c.interval_ps.result (interval_ps case.study) c.margin.result c.margin.ensures c.interval_ps.ensures.exact backup primary))
-
 pub returns-clause-kept : goal.returns-clause-kept
-returns-clause-kept c =
+returns-clause-kept c keeps =
     let case = c.args.inst.now in
     let settings = choice_data c.args.choice.now in
-    let fits : SFits w64 c.margin.result = search rules in
-    let value = to_z-of_z w64 c.margin.result fits in
+    let r = row_at case c.args.row in
+    let fits : SFits w64 c.row_margin.result = search rules in
+    let times = c.set_times-times in
+    let exact = to_z-of_z w64 c.row_margin.result fits ∙ c.row_margin.ensures.exact ∙ ap (λ (t : ℕ). margin_of case.study r t times.result.primary.lower) times.ensures.backup.upper
+    ∙ ap (λ (t : ℕ). margin_of case.study r (greatest_ps case settings r.fault r.backup) t) times.ensures.primary.lower in
     let P : ℤ → Type 0 = λ z. pos 0 ≤ℤ z in
-    rw value (at_row case c.args.row (λ r. c.set_times-times.result.backup ≡ (least_ps case settings r.fault r.backup, greatest_ps case settings r.fault r.backup))
-    (λ r. c.set_times-times.result.primary ≡ (least_ps case settings r.fault r.primary, greatest_ps case settings r.fault r.primary)) (λ r. KeepsInterval case.study case.currents settings r → pos 0 ≤ℤ c.margin.result)
-    c.set_times-times.ensures.backup c.set_times-times.ensures.primary
-    (λ r listed backup primary. λ keeps. subst P (sym (exact_is c.set_times-times.result.backup c.set_times-times.result.primary _ _ _ _ c.interval_ps.result (interval_ps case.study) c.margin.result c.margin.ensures c.interval_ps.ensures.exact backup primary)) ((margin_sign (greatest_ps case settings r.fault r.backup) (least_ps case settings r.fault r.primary) (interval_ps case.study)).1 (row_meets case settings r c.interval_ps.ensures.fits c.requires.first_box listed keeps))))
+    subst P (sym exact) ((margin_sign case.study r _ _).1 (row_meets case settings r c.row_margin.ensures.fits c.requires.first_box (at_number case c.args.row c.requires.row) keeps))

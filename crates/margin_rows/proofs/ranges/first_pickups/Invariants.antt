@@ -1,6 +1,6 @@
 use Rattle.std.proofs.Common.{◌≡◌, ℕ, ◌↔◌, length}
 use Rattle.std.specs.Prelude.{slice_get, IfSome}
-use Rattle.margin_rows.specs.Box.{IsIn}
+use Rattle.margin_rows.specs.Box.{IsEmpty, IsIn, no_steps}
 use Rattle.margin_rows.specs.FirstBox.{IsFirstStep}
 use Rattle.margin_rows.proofs.ranges.first_pickups.Given as goal
 
@@ -8,4 +8,5 @@ abbrev pub invariant-loop-relay : goal.invariant-loop-relay
 invariant-loop-relay l = record {
   count : length l.spans.items ≡ l.relay;
   each : (i step : ℕ) → IfSome (slice_get l.spans.items i) (λ span. IsIn span step ↔ IsFirstStep l.inst i step);
+  none : (i : ℕ) → IfSome (slice_get l.spans.items i) (λ span. IsEmpty span → span ≡ no_steps);
 }

@@ -1,14 +1,14 @@
 use Rattle.std.proofs.Common.{arith, ap, length}
 use Rattle.std.proofs.lemmas.List.{length_push}
-use Rattle.margin_rows.proofs.Listed.{term_at}
+use Rattle.margin_rows.proofs.Listed.{term_facts_at}
 use Rattle.margin_rows.proofs.Ran.{term_runs_more}
 use Rattle.margin_rows.proofs.runs.term_runs.Goals as goal
 
 pub run_of-requires-clause-fault : goal.run_of-requires-clause-fault
-run_of-requires-clause-fault c = (term_at c.args.given.now c.args.terms.now c.loop-term.term-index (record { fault = 0; relay = 0 }) c.requires.terms c.loop-term-test.true).fault
+run_of-requires-clause-fault c = (term_facts_at c.args.given.now c.args.terms.now c.loop-term.term-index (record { fault = 0; relay = 0 }) c.requires.terms c.loop-term-test.true).fault
 
 pub run_of-requires-clause-relay : goal.run_of-requires-clause-relay
-run_of-requires-clause-relay c = (term_at c.args.given.now c.args.terms.now c.loop-term.term-index (record { fault = 0; relay = 0 }) c.requires.terms c.loop-term-test.true).relay
+run_of-requires-clause-relay c = (term_facts_at c.args.given.now c.args.terms.now c.loop-term.term-index (record { fault = 0; relay = 0 }) c.requires.terms c.loop-term-test.true).relay
 
 pub loop-term-preserved : goal.loop-term-preserved
 loop-term-preserved c = record {

@@ -4,6 +4,7 @@ use Rattle.margin_rows.proofs.tables.tabulate.Goals as goal
 pub returns-clause-exact : goal.returns-clause-exact
 returns-clause-exact c = record {
   rows = c.in_ok-rows.ensures.rows;
+  demands = c.in_ok-demands.ensures;
   terms = c.in_ok-terms.ensures;
   span_count = c.in_ok-spans.ensures.count;
   spans = c.in_ok-spans.ensures.each;
