@@ -6,12 +6,13 @@ use Rattle.std.proofs.lemmas.List.{take_more_set, append-nil}
 use Rattle.std.proofs.lemmas.List.Elements.{All-filter, filter_more}
 use Rattle.std.proofs.lemmas.List.Sums.{sum_by-cons, length-filter, count_by-le-length}
 use Rattle.coord_model.specs.declared.weights.Weight.{Weight}
-use Rattle.margin_rows.specs.Case.{Case, rows_in}
+use Rattle.margin_rows.specs.Case.{Case, row_at, rows_in}
+use Rattle.margin_rows.specs.Demands.{fast_part, slow_part}
 use Rattle.margin_rows.specs.Dial.{dial_at_step}
 use Rattle.margin_rows.specs.Price.{term_sum}
 use Rattle.margin_rows.specs.Times.{time_at}
 use Rattle.margin_rows.specs.declared.span.Steps.{Steps}
-use Rattle.box_bound.specs.DualValue.{row_of, primary_part, backup_part, gain, loss, at_dial, part, IsLeastPart}
+use Rattle.box_bound.specs.DualValue.{primary_part, backup_part, gain, loss, at_dial, part, IsLeastPart}
 use Rattle.box_bound.specs.Weighing.{FitWeights, touches, touching}
 
 -- a sum over what passes a test is the sum over all, where the others count 0
@@ -36,8 +37,8 @@ no_backup false false n apart = refl
 module _ (case : Case) (lambda : ℕ) (ws : List Weight) (i : ℕ) where
   same_part : (step dial : ℕ) → part case lambda (touching case i ws) i step dial ≡ part case lambda ws i step dial
   same_part step dial =
-      let gained = sum_of_kept (touches case i) (primary_part case i step) ws (λ w apart. let row = row_of case w.row in no_primary (row.primary == i) (row.backup == i) (w.weight * (time_at case row.fault i step).lower) apart) in
-      let lost = sum_of_kept (touches case i) (backup_part case i step) ws (λ w apart. let row = row_of case w.row in no_backup (row.primary == i) (row.backup == i) (w.weight * (time_at case row.fault i step).upper) apart) in
+      let gained = sum_of_kept (touches case i) (primary_part case i step) ws (λ w apart. let row = row_at case w.row in no_primary (row.primary == i) (row.backup == i) (fast_part row.kind (w.weight * (time_at case row.fault i step).lower)) apart) in
+      let lost = sum_of_kept (touches case i) (backup_part case i step) ws (λ w apart. let row = row_at case w.row in no_backup (row.primary == i) (row.backup == i) (slow_part row.kind (w.weight * (time_at case row.fault i step).upper)) apart) in
       ap (λ (n : ℕ). at_dial (dial_at_step case.study i dial) (lambda * term_sum case i step + n) (loss case (touching case i ws) i step)) gained
       ∙ ap (λ (n : ℕ). at_dial (dial_at_step case.study i dial) (gain case lambda ws i step) n) lost
 

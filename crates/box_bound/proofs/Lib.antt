@@ -2,6 +2,10 @@ pub mod Parts
 pub mod Spans
 pub mod Leasts
 pub mod Totals
+pub mod Constants
 pub mod Counting
 pub mod Swaps
 pub mod Duality
+pub mod Values
+pub mod Bounds
+pub mod LowestBounds

@@ -3,7 +3,7 @@ use Rattle.std.specs.Prelude.{slice_get}
 use Rattle.std.specs.Option.{IsSomeAnd}
 use Rattle.std.proofs.Common.{◌≡◌, ℕ, suc, ◌<◌, arith, sym, subst}
 use Rattle.std.proofs.lemmas.Option.{get_or_from_slice_get}
-use Rattle.margin_rows.specs.Box.{Box, IsIn, IsShownAs, IsDialStep, IsFilled}
+use Rattle.margin_rows.specs.Box.{Box, no_steps, IsIn, IsShownAs, IsDialStep, IsFilled}
 use Rattle.margin_rows.specs.Case.{Case}
 use Rattle.margin_rows.specs.FirstBox.{IsFirstStep}
 use Rattle.margin_rows.specs.declared.span.Span.{Span}
@@ -27,7 +27,7 @@ pub pickups_read : (case : Case) (box : Box) (i : ℕ) (shown : Span) → IsFill
 pickups_read case box i shown filled is =
     let there = some_and (slice_get box.pickup i) (λ span. IsShownAs span shown) is in
     let P : Steps → Type 0 = λ span. IsSpanRead span shown (IsFirstStep case i) in
-    subst P (sym (get_or_from_slice_get box.pickup i there.0 (record { low = 0; past = 0 }) there.1))
+    subst P (sym (get_or_from_slice_get box.pickup i there.0 no_steps there.1))
     (read there.0 shown (IsFirstStep case i) there.2 (of_some (slice_get box.pickup i) (λ span. span.low < span.past) there.0 there.1 (filled.steps.pickup i))
     (λ step. of_some (slice_get box.pickup i) (λ span. IsIn span step → IsFirstStep case i step) there.0 there.1 (filled.fits.pickup i step)))
 
@@ -36,7 +36,7 @@ pub dials_read : (case : Case) (box : Box) (i : ℕ) (shown : Span) → IsFilled
 dials_read case box i shown filled is =
     let there = some_and (slice_get box.dial i) (λ span. IsShownAs span shown) is in
     let P : Steps → Type 0 = λ span. IsSpanRead span shown (IsDialStep case i) in
-    subst P (sym (get_or_from_slice_get box.dial i there.0 (record { low = 0; past = 0 }) there.1))
+    subst P (sym (get_or_from_slice_get box.dial i there.0 no_steps there.1))
     (read there.0 shown (IsDialStep case i) there.2 (of_some (slice_get box.dial i) (λ span. span.low < span.past) there.0 there.1 (filled.steps.dial i))
     (λ step. of_some (slice_get box.dial i) (λ span. IsIn span step → IsDialStep case i step) there.0 there.1 (filled.fits.dial i step)))
 

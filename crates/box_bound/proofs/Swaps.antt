@@ -96,3 +96,14 @@ total_le (z ∷ zs) g l a each =
   where
     plain : (z t : ℤ) (g l gs ls : ℕ) → z ≤ℤ (pos g -ℤ pos l) → t ≤ℤ (pos gs -ℤ pos ls) → (z +ℤ t) ≤ℤ (pos (g + gs) -ℤ pos (l + ls))
     plain z t g l gs ls a b = omega (arith, ints, a, b)
+
+-- numbers that are at least gains add up to at least the gains
+pub total_ge : (zs : List ℤ) (g : ℕ → ℕ) (a : ℕ) → ((k : ℕ) (z : ℤ) → slice_get zs k ≡ Some z → pos (g (a + k)) ≤ℤ z) → pos (between g a (length zs)) ≤ℤ total zs
+total_ge [] g a each = omega (arith, ints)
+total_ge (z ∷ zs) g a each =
+    let here : pos (g a) ≤ℤ z = subst (λ (n : ℕ). pos (g n) ≤ℤ z) (omega arith) (each 0 z refl) in
+    let others = total_ge zs g (suc a) (λ k y found. subst (λ (n : ℕ). pos (g n) ≤ℤ y) (omega arith) (each (suc k) y found)) in
+    plain z (total zs) (g a) (between g (suc a) (length zs)) here others
+  where
+    plain : (z t : ℤ) (g gs : ℕ) → pos g ≤ℤ z → pos gs ≤ℤ t → pos (g + gs) ≤ℤ (z +ℤ t)
+    plain z t g gs a b = omega (arith, ints, a, b)

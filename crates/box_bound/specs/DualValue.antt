@@ -1,43 +1,40 @@
--- The dual value of a box (ours), in picoseconds times lambda: the coordination interval as often as the weights say,
--- and for each relay the least that its times count, over its pickup steps and the two ends of its dials. A time counts
--- for its cost times lambda, and for the rows by their weights: with the primary's lower end, against the backup's upper end.
-use Rattle.std.specs.Prelude.{◌≡◌, ℕ, suc, ◌+◌, ◌*◌, ◌<◌, ◌==◌, ◌⊎◌, ℤ, pos, ◌+ℤ◌, ◌-ℤ◌, ◌≤ℤ◌, List, [], ◌∷◌, length, sum_by, slice_get, slice_index_or, IsSomeAnd, if◌then◌else◌}
-use Rattle.coord_model.specs.declared.study.Row.{Row}
+-- The dual value of a box (ours), in picoseconds times lambda: the constants of rows as often as their weights say, and
+-- for each relay the least that its times count, over its pickup steps and the two ends of its dials. A time counts for
+-- its cost times lambda, and for the rows by their weights: for those that ask its relay to be fast with the lower end,
+-- against those that ask it to be slow with the upper end.
+use Rattle.std.specs.Prelude.{◌≡◌, ℕ, suc, ◌+◌, ◌*◌, ◌<◌, ◌==◌, ◌⊎◌, ℤ, pos, ◌+ℤ◌, ◌-ℤ◌, ◌*ℤ◌, ◌≤ℤ◌, List, [], ◌∷◌, length, map, sum_by, slice_get, IsSomeAnd, if◌then◌else◌}
 use Rattle.coord_model.specs.declared.weights.Weight.{Weight}
 use Rattle.margin_rows.specs.Box.{Box, IsIn}
-use Rattle.margin_rows.specs.Case.{Case, rows_in}
+use Rattle.margin_rows.specs.Case.{Case, row_at}
+use Rattle.margin_rows.specs.Demands.{fast_part, row_constant, slow_part}
 use Rattle.margin_rows.specs.Dial.{dial_at_step}
-use Rattle.margin_rows.specs.Margin.{interval_ps}
 use Rattle.margin_rows.specs.Price.{term_sum}
 use Rattle.margin_rows.specs.Times.{time_at}
+use Rattle.margin_rows.specs.Within.{span_of}
 use Rattle.margin_rows.specs.declared.span.Steps.{Steps}
-
--- the row with a number
-abbrev pub row_of : Case → ℕ → Row
-row_of case number = slice_index_or (rows_in case) number (record { fault = 0; backup = 0; primary = 0 })
 
 -- the pickup steps of relay i, and its dial steps
 abbrev pub pickups_of : Box → ℕ → Steps
-pickups_of box i = slice_index_or box.pickup i (record { low = 0; past = 0 })
+pickups_of box i = span_of box.pickup i
 
 abbrev pub dials_of : Box → ℕ → Steps
-dials_of box i = slice_index_or box.dial i (record { low = 0; past = 0 })
+dials_of box i = span_of box.dial i
 
--- the time of relay i by the weight of a row, where the relay is the row's primary
+-- the time of relay i by the weight of a row that asks it to be fast
 abbrev pub primary_part : Case → ℕ → ℕ → Weight → ℕ
 primary_part case i step w =
-    let row = row_of case w.row in if row.primary == i then w.weight * (time_at case row.fault i step).lower else 0
+    let row = row_at case w.row in if row.primary == i then fast_part row.kind (w.weight * (time_at case row.fault i step).lower) else 0
 
--- the time of relay i by the weight of a row, where the relay is the row's backup
+-- the time of relay i by the weight of a row that asks it to be slow
 abbrev pub backup_part : Case → ℕ → ℕ → Weight → ℕ
 backup_part case i step w =
-    let row = row_of case w.row in if row.backup == i then w.weight * (time_at case row.fault i step).upper else 0
+    let row = row_at case w.row in if row.backup == i then slow_part row.kind (w.weight * (time_at case row.fault i step).upper) else 0
 
--- what a unit of relay i's dial adds: lambda for its terms, and the weights of the rows where it is the primary
+-- what a unit of relay i's dial adds: lambda for its terms, and the weights of the rows that ask it to be fast
 abbrev pub gain : Case → ℕ → List Weight → ℕ → ℕ → ℕ
 gain case lambda weights i step = lambda * term_sum case i step + sum_by (primary_part case i step) weights
 
--- what a unit of relay i's dial takes away: the weights of the rows where it is the backup
+-- what a unit of relay i's dial takes away: the weights of the rows that ask it to be slow
 abbrev pub loss : Case → List Weight → ℕ → ℕ → ℕ
 loss case weights i step = sum_by (backup_part case i step) weights
 
@@ -63,9 +60,13 @@ abbrev pub total : List ℤ → ℤ
 total [] = pos 0
 total (z ∷ zs) = z +ℤ total zs
 
--- the dual value: the interval as often as the weights say, and the least part of each relay
+-- the constant of a row as often as its weight says
+abbrev pub weighted_constant : Case → Weight → ℤ
+weighted_constant case w = pos w.weight *ℤ row_constant case.study (row_at case w.row)
+
+-- the dual value: the weighted constants, and the least part of each relay
 pub record IsDualValue (case : Case) (box : Box) (lambda : ℕ) (weights : List Weight) (value : ℤ) : Type 0 where
   pub leasts : List ℤ
   pub count : length leasts ≡ length case.study.relays
   pub each : (i : ℕ) → i < length case.study.relays → IsSomeAnd (slice_get leasts i) (IsLeastPart case lambda weights i (pickups_of box i) (dials_of box i))
-  pub adds_up : value ≡ pos (interval_ps case.study * sum_by (λ w. w.weight) weights) +ℤ total leasts
+  pub adds_up : value ≡ total (map (weighted_constant case) weights) +ℤ total leasts

@@ -2,8 +2,7 @@
 use Rattle.std.specs.Prelude.{ℕ, ◌<◌, ◌≤◌, ◌==◌, ◌||◌, Bool, List, length, filter, All}
 use Rattle.coord_model.specs.declared.weights.Weight.{Weight}
 use Rattle.margin_rows.specs.Box.{Box, IsFilled}
-use Rattle.margin_rows.specs.Case.{Case, rows_in}
-use Rattle.box_bound.specs.DualValue.{row_of}
+use Rattle.margin_rows.specs.Case.{Case, row_at, rows_in}
 
 -- the weights are of rows of the case, and at most 64
 pub record FitWeights (case : Case) (weights : List Weight) : Type 0 where
@@ -17,7 +16,7 @@ pub record IsWeighed (case : Case) (box : Box) (weights : List Weight) : Type 0 
 
 -- the row of the weight touches relay i: the relay is its primary or its backup
 abbrev pub touches : Case → ℕ → Weight → Bool
-touches case i w = let row = row_of case w.row in (row.primary == i) || (row.backup == i)
+touches case i w = let row = row_at case w.row in (row.primary == i) || (row.backup == i)
 
 -- the weights of the rows that touch relay i
 abbrev pub touching : Case → ℕ → List Weight → List Weight

@@ -2,11 +2,11 @@
 ghost use Rattle.std.specs.Prelude.{◌≡◌, ◌<◌, ◌≤◌, ◌^◌};
 ghost use Rattle.margin_rows.specs.FirstBox.{IsFirstStep};
 ghost use Rattle.box_bound.specs.DualValue.{gain, loss, at_dial};
-ghost use Rattle.box_bound.specs.Weighing.{IsWeighed};
+ghost use Rattle.box_bound.specs.Weighing.{FitWeights};
 
 use crate::shares::{backup_sum, primary_sum};
 use coord_model::Weight;
-use margin_rows::{Instance, Ranges};
+use margin_rows::Instance;
 
 /// What a unit of a relay's dial adds, and what it takes away, in nanoseconds times lambda.
 #[derive(Clone, Copy)]
@@ -18,13 +18,12 @@ pub struct Coefficient {
 /// The coefficient of a relay's dial at a pickup step.
 pub fn coefficient_at(
     inst: &Instance,
-    ranges: &Ranges,
     lambda: u32,
     weights: &[Weight],
     relay: u16,
     step: u16,
 ) -> Coefficient
-    requires weighed { IsWeighed inst.now ranges.now weights.now }
+    requires fit { FitWeights inst.now weights.now }
     requires step { IsFirstStep inst.now relay step }
 
     ensures gain { result.gain ≡ gain inst.now lambda weights.now relay step }
@@ -34,8 +33,8 @@ pub fn coefficient_at(
 {
     let cost = u128::from(lambda) * u128::from(inst.term_sum(relay, step));
     Coefficient {
-        gain: cost + primary_sum(inst, ranges, weights, relay, step),
-        loss: backup_sum(inst, ranges, weights, relay, step),
+        gain: cost + primary_sum(inst, weights, relay, step),
+        loss: backup_sum(inst, weights, relay, step),
     }
 }
 

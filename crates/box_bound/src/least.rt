@@ -62,7 +62,7 @@ fn least_at(
     ensures not_low { pos 0 ≤ℤ (result +ℤ pos (2 ^ 106)) }
     ensures not_high { result ≤ℤ pos (2 ^ 106) }
 {
-    let coefficient = coefficient_at(inst, ranges, lambda, weights, relay, step);
+    let coefficient = coefficient_at(inst, lambda, weights, relay, step);
     let dials = ranges.dial(relay);
     let low = at_dial(coefficient, dial_at(inst, relay, dials.lo));
     let high = at_dial(coefficient, dial_at(inst, relay, dials.hi));

@@ -32,6 +32,6 @@ fn touches(inst: &Instance, weight: Weight, relay: u16) -> bool
     requires { weight.row < length (rows_in inst.now) }
     ensures { result ≡ touches inst.now relay weight }
 {
-    let row = inst.rows()[usize::from(weight.row)];
+    let row = inst.row(weight.row);
     row.primary == relay || row.backup == relay
 }

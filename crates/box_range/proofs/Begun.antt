@@ -1,17 +1,13 @@
 -- How the rounds begin, and how they end.
 use Rattle.std.specs.Prelude.{slice_index_or}
 use Rattle.std.specs.List.{Contains}
-use Rattle.std.proofs.Common.{◌≡◌, ℕ, ◌<◌, inl, inr, true, false, length, replicate, arith}
+use Rattle.std.proofs.Common.{◌≡◌, ℕ, inl, inr, true, false, replicate, arith}
 use Rattle.std.proofs.lemmas.Bool.{cases_lt}
 use Rattle.std.proofs.lemmas.List.{get_or-replicate, get_or_past, length-replicate}
 use Rattle.coord_model.specs.declared.study.Row.{Row}
-use Rattle.margin_rows.specs.Box.{Box, IsShownAs}
+use Rattle.margin_rows.specs.Box.{Box}
 use Rattle.margin_rows.specs.Case.{Case, rows_in, FitsCase}
-use Rattle.margin_rows.specs.declared.span.Span.{Span}
-use Rattle.box_range.specs.Kinds.{spans_of, span_at, HasEmptySpan}
 use Rattle.box_range.specs.Rounds.{IsDueOrSettled}
-use Rattle.box_range.specs.declared.kind.Kind.{Kind}
-use Rattle.box_range.proofs.Spans.{span_has}
 use Rattle.box_range.proofs.Visited.{row_places}
 
 -- at first each row is due
@@ -27,16 +23,3 @@ none_flagged relay =
       | inl below ↦ get_or-replicate 96 relay false false below
       | inr past ↦ get_or_past (replicate 96 false) relay false (omega (arith, past, length-replicate 96 false))
     ]
-
--- a span that is shown as empty is empty
-pub empty_shown : (box : Box) (kind : Kind) (relay : ℕ) (shown : Span) → relay < length (spans_of kind box) → IsShownAs (span_at kind box relay) shown → shown.hi < shown.lo → HasEmptySpan box
-empty_shown box kind relay shown below is crossed = (
-  kind,
-  relay,
-  span_at kind box relay,
-  span_has box kind relay below,
-  elim (cases_lt (span_at kind box relay).low (span_at kind box relay).past) [
-    | inl some ↦ absurd (omega (arith, (is.steps some).0, (is.steps some).1, crossed, some))
-    | inr empty ↦ empty
-  ],
-)

@@ -15,7 +15,8 @@ use Rattle.box_range.specs.declared.kind.Kind.TheVariants.{Pickup, Dial}
 use Rattle.box_range.proofs.Order.{drops_within, drops_drops}
 use Rattle.box_range.proofs.Places.{relay_counts}
 use Rattle.box_range.proofs.Spans.{span_has, steps_have, lies_at, with_count, with_same, with_twice, with_own}
-use Rattle.box_range.proofs.Within.{narrowed_within, droppable_within, lies_narrowed, fits_within}
+use Rattle.margin_rows.proofs.Within.{fits_within}
+use Rattle.box_range.proofs.Within.{by_kind, narrowed_within, droppable_within, lies_narrowed}
 
 -- the lowest n steps of a span are dropped where each of them is droppable
 low_chain : (case : Case) (kind : Kind) (n : ℕ) (box : Box) (relay low past : ℕ) → relay < length (spans_of kind box) → span_at kind box relay ≡ (record { low = low; past = past })
@@ -38,7 +39,7 @@ low_chain case kind (suc n) box relay low past below is fits each =
       steps = omega (arith, fits);
       droppable = each low (omega arith) (omega arith);
     } in
-    let within = narrowed_within kind box relay rest below (rw is (omega arith)) (rw is (omega arith)) in
+    let within = narrowed_within kind box relay rest below (rw is (record { low = omega arith; past = omega arith })) in
     let more = low_chain case kind n later relay (suc low) past (omega (arith, below, with_count kind kind box relay rest)) (with_same kind box relay rest below) (omega (arith, fits))
     (λ step from before. droppable_within case later box kind relay step within (each step (omega (arith, from)) (omega (arith, before)))) in
     let same : suc low + n ≡ low + suc n = omega arith in
@@ -66,7 +67,7 @@ high_chain case kind (suc n) box relay low past below is fits each =
       steps = omega (arith, fits);
       droppable = each (past + suc n - 1) (omega arith) (omega arith);
     } in
-    let within = narrowed_within kind box relay rest below (rw is (omega arith)) (rw is (omega arith)) in
+    let within = narrowed_within kind box relay rest below (rw is (record { low = omega arith; past = omega arith })) in
     let more = high_chain case kind n later relay low past (omega (arith, below, with_count kind kind box relay rest)) (with_same kind box relay rest below) fits
     (λ step from before. droppable_within case later box kind relay step within (each step from (omega (arith, before)))) in
     next drop (subst (λ (p : ℕ). Drops case (with_span kind box relay (record { low = low; past = p })) (with_span kind box relay (record { low = low; past = past }))) (sym one_less)
@@ -155,7 +156,7 @@ cut_low_end case row box later kind below cut m =
     let within = drops_within case box later cut.drops in
     let now = cut_can case row box later kind row.backup (span_at kind box row.backup).low cut m in
     let is = rw now.has at (lies_at later now.settings kind row.backup now.lies below) in
-    let same : (span_at kind box row.backup).low ≡ (span_at kind later row.backup).low = omega (arith, is.from, within.low kind row.backup) in
+    let same : (span_at kind box row.backup).low ≡ (span_at kind later row.backup).low = omega (arith, is.from, ((by_kind within kind).each row.backup).low) in
     rw same at now
 
 pub cut_high_end : (case : Case) (row : Row) (box later : Box) (kind : Kind) → row.primary < length (spans_of kind later) → IsCut case row box later
@@ -164,5 +165,5 @@ cut_high_end case row box later kind below cut m =
     let within = drops_within case box later cut.drops in
     let now = cut_can case row box later kind row.primary ((span_at kind box row.primary).past - 1) cut m in
     let is = rw now.has at (lies_at later now.settings kind row.primary now.lies below) in
-    let same : (span_at kind box row.primary).past - 1 ≡ (span_at kind later row.primary).past - 1 = omega (arith, is.from, is.before, within.past kind row.primary) in
+    let same : (span_at kind box row.primary).past - 1 ≡ (span_at kind later row.primary).past - 1 = omega (arith, is.from, is.before, ((by_kind within kind).each row.primary).past) in
     rw same at now

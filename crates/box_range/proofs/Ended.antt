@@ -1,14 +1,13 @@
 -- What tightening keeps, from the drops and their end alone.
 use Rattle.std.proofs.Common.{◌≡◌, ◌↔◌, refl}
-use Rattle.margin_rows.specs.Box.{Box, FitsBox}
+use Rattle.margin_rows.specs.Box.{Box, HasEmptySpan, FitsBox}
 use Rattle.margin_rows.specs.Case.{Case}
 use Rattle.box_range.specs.Drops.{Drops, IsTight, IsEmptied}
 use Rattle.box_range.specs.Ends.{HasEnded}
-use Rattle.box_range.specs.Kinds.{HasEmptySpan}
 use Rattle.box_range.specs.declared.tightening.Tightened.{Tightened}
 use Rattle.box_range.specs.declared.tightening.Tightened.TheVariants.{Tight, Emptied}
 use Rattle.box_range.proofs.Order.{drops_within, one_tight, tight_not_emptied}
-use Rattle.box_range.proofs.Within.{fits_within}
+use Rattle.margin_rows.proofs.Within.{fits_within}
 
 module _ (case : Case) (box later : Box) where
   pub ended_tight : (t : Tightened) → HasEnded case box later t → t ≡ Tight → IsTight case later

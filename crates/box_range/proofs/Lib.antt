@@ -13,3 +13,5 @@ pub mod Rounded
 pub mod Tight
 pub mod Ended
 pub mod Begun
+pub mod TightLaws
+pub mod WholeBoxes

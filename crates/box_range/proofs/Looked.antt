@@ -3,11 +3,11 @@ use Rattle.std.specs.List.{Contains}
 use Rattle.std.proofs.Common.{◌≡◌, ℕ, ◌<◌, ◌≤◌, inl, inr, Bool, true, false, length, arith, refl, ap, ◌∙◌}
 use Rattle.std.proofs.lemmas.Bool.{cases_eq}
 use Rattle.coord_model.specs.declared.study.Row.{Row}
-use Rattle.margin_rows.specs.Box.{Box, IsFilled}
+use Rattle.margin_rows.specs.Box.{Box, HasEmptySpan, IsFilled}
 use Rattle.margin_rows.specs.Case.{Case, rows_in}
 use Rattle.margin_rows.specs.declared.span.Steps.{Steps}
 use Rattle.box_range.specs.Drops.{Drops}
-use Rattle.box_range.specs.Kinds.{spans_of, span_at, with_span, HasEmptySpan}
+use Rattle.box_range.specs.Kinds.{spans_of, span_at, with_span}
 use Rattle.box_range.specs.Looks.{IsSettling}
 use Rattle.box_range.specs.Meeting.{IsMeetable}
 use Rattle.box_range.specs.Settled.{IsCut, DiffersAt, MeetsAtLow, MeetsAtHigh, size}
@@ -15,7 +15,7 @@ use Rattle.box_range.specs.declared.kind.Kind.{Kind}
 use Rattle.box_range.specs.declared.kind.Kind.TheVariants.{Dial}
 use Rattle.box_range.proofs.Cuts.{cut_high, cut_cut, cut_filled, cut_low_end}
 use Rattle.box_range.proofs.Places.{relay_counts}
-use Rattle.box_range.proofs.Spans.{has_steps, span_has, with_count, with_same}
+use Rattle.box_range.proofs.Spans.{has_empty, has_steps, with_count, with_same}
 
 -- where no choice meets the row, all dial steps of its primary are dropped
 pub cleared_drops : (case : Case) (box later : Box) (row : Row) → IsFilled case box → Contains (rows_in case) row
@@ -34,8 +34,7 @@ cleared_empty case box later row filled there is =
     let low = (span_at Dial box row.primary).low in
     let none : Steps = record { low = low; past = low } in
     let inside : row.primary < length (spans_of Dial (with_span Dial box row.primary none)) = omega (arith, below, with_count Dial Dial box row.primary none) in
-    let stands = rw (with_same Dial box row.primary none below) at (span_has (with_span Dial box row.primary none) Dial row.primary inside) in
-    rw is (Dial, row.primary, none, stands, omega arith)
+    rw is (has_empty (with_span Dial box row.primary none) Dial row.primary inside (rw (with_same Dial box row.primary none below) (omega arith)))
 
 no_more : (box later : Box) (moved : Bool) → (moved ≡ false → later ≡ box) → (moved ≡ true → size later < size box) → size later ≤ size box
 no_more box later false unchanged fewer = let same : size later ≡ size box = ap (λ (b : Box). size b) (unchanged refl) in omega (arith, same)

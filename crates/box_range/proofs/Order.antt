@@ -1,27 +1,25 @@
 -- The order of drops doesn't matter, and what each drop keeps.
 use Rattle.std.specs.Prelude.{Contains}
-use Rattle.std.proofs.Common.{◌≡◌, ◌≢◌, ℕ, ◌-◌, ◌<◌, ◌≤◌, length, arith}
+use Rattle.std.proofs.Common.{◌≡◌, ◌≢◌, ℕ, ◌-◌, ◌<◌, length, arith}
 use Rattle.std.proofs.lemmas.List.Elements.{All-contains}
 use Rattle.coord_model.specs.Choice.{Settings}
 use Rattle.coord_model.specs.declared.study.Row.{Row}
-use Rattle.margin_rows.specs.Box.{Box, IsIn, LiesIn}
+use Rattle.margin_rows.specs.Box.{Box, HasEmptySpan, IsIn, LiesIn}
 use Rattle.margin_rows.specs.Case.{Case, rows_in}
 use Rattle.margin_rows.specs.Margin.{MeetsLoosely}
+use Rattle.margin_rows.specs.Within.{IsSpanWithin, IsWithin}
 use Rattle.margin_rows.specs.declared.span.Steps.{Steps}
+use Rattle.margin_rows.proofs.Within.{within_both, within_itself, within_within}
 use Rattle.box_range.specs.Drops.{IsDroppable, Drop, dropped, Drops, none, next, IsTight, MeetsAllLoosely}
-use Rattle.box_range.specs.Kinds.{spans_of, step_of, span_at, with_span, HasEmptySpan, Side, lowest, highest, end_of, without_end}
+use Rattle.box_range.specs.Kinds.{spans_of, step_of, span_at, with_span, Side, lowest, highest, end_of, without_end}
 use Rattle.box_range.specs.declared.kind.Kind.{Kind}
-use Rattle.box_range.proofs.Spans.{has_span, span_has, has_steps, lies_at}
-use Rattle.box_range.proofs.Within.{IsWithin, within_itself, within_within, narrowed_within, within_narrowed, lies_narrowed, droppable_within, within_both}
+use Rattle.box_range.proofs.Spans.{empty_at, has_span, span_has, has_steps, lies_at}
+use Rattle.box_range.proofs.Within.{by_kind, narrowed_within, within_narrowed, lies_narrowed, droppable_within}
 
 -- a span without an end of it lies within it
-less_low : (side : Side) (span : Steps) → span.low ≤ (without_end side span).low
-less_low lowest span = omega arith
-less_low highest span = omega arith
-
-less_past : (side : Side) (span : Steps) → (without_end side span).past ≤ span.past
-less_past lowest span = omega arith
-less_past highest span = omega arith
+less : (side : Side) (span : Steps) → IsSpanWithin (without_end side span) span
+less lowest span = record { low = omega arith; past = omega arith }
+less highest span = record { low = omega arith; past = omega arith }
 
 -- a step of the span other than the end is left
 step_left : (side : Side) (span : Steps) (step : ℕ) → IsIn span step → step ≢ end_of side span → IsIn (without_end side span) step
@@ -32,7 +30,7 @@ pub drop_within : (case : Case) (box : Box) (drop : Drop case box) → IsWithin 
 drop_within case box drop =
     let at = has_span box drop.kind drop.relay drop.span drop.stands in
     narrowed_within drop.kind box drop.relay (without_end drop.side drop.span) at.0
-    (rw at.1 (less_low drop.side drop.span)) (rw at.1 (less_past drop.side drop.span))
+    (rw at.1 (less drop.side drop.span))
 
 pub drops_within : (case : Case) (box later : Box) → Drops case box later → IsWithin later box
 drops_within case box later none = within_itself box
@@ -79,18 +77,18 @@ tight_off case tight box kind side relay is within below droppable =
 tight_without : (case : Case) (tight box : Box) (kind : Kind) (side : Side) (relay : ℕ) → IsTight case tight → IsWithin tight box → relay < length (spans_of kind box)
     → IsDroppable case box kind relay (end_of side (span_at kind box relay)) → IsWithin tight (with_span kind box relay (without_end side (span_at kind box relay)))
 tight_without case tight box kind lowest relay is within below droppable =
-    let inside : relay < length (spans_of kind tight) = omega (arith, within.count kind) in
+    let inside : relay < length (spans_of kind tight) = omega (arith, (by_kind within kind).count) in
     let off : (span_at kind box relay).low ≢ (span_at kind tight relay).low =
     λ (same : (span_at kind box relay).low ≡ (span_at kind tight relay).low). tight_off case tight box kind lowest relay is within inside (rw same at droppable) in
     within_narrowed kind tight box relay (without_end lowest (span_at kind box relay)) below within
-    (omega (arith, off, within.low kind relay)) (within.past kind relay)
+    (record { low = omega (arith, off, ((by_kind within kind).each relay).low); past = ((by_kind within kind).each relay).past })
 tight_without case tight box kind highest relay is within below droppable =
-    let inside : relay < length (spans_of kind tight) = omega (arith, within.count kind) in
+    let inside : relay < length (spans_of kind tight) = omega (arith, (by_kind within kind).count) in
     let some = has_steps tight kind relay is.steps inside in
     let off : (span_at kind box relay).past - 1 ≢ (span_at kind tight relay).past - 1 =
     λ (same : (span_at kind box relay).past - 1 ≡ (span_at kind tight relay).past - 1). tight_off case tight box kind highest relay is within inside (rw same at droppable) in
     within_narrowed kind tight box relay (without_end highest (span_at kind box relay)) below within
-    (within.low kind relay) (omega (arith, off, some, within.past kind relay))
+    (record { low = ((by_kind within kind).each relay).low; past = omega (arith, off, some, ((by_kind within kind).each relay).past) })
 
 tight_drop : (case : Case) (tight box : Box) (drop : Drop case box) → IsTight case tight → IsWithin tight box → IsWithin tight (dropped case box drop)
 tight_drop case tight box drop is within =
@@ -109,10 +107,15 @@ one_tight case box a b to_a tight_a to_b tight_b =
 
 -- where drops lead to an empty span, they lead to no tight box
 pub tight_not_emptied : (case : Case) (box tight end : Box) → Drops case box tight → IsTight case tight → Drops case box end → HasEmptySpan end → ⊥
-tight_not_emptied case box tight end to_tight is to_end (kind, relay, span, stands, empty) =
+tight_not_emptied case box tight end to_tight is to_end gone =
     let within = tight_within case tight box end is to_end (drops_within case box tight to_tight) in
-    let at = has_span end kind relay span stands in
-    let some = has_steps tight kind relay is.steps (omega (arith, at.0, within.count kind)) in
-    let low = rw at.1 at (within.low kind relay) in
-    let past = rw at.1 at (within.past kind relay) in
-    omega (arith, some, low, past, empty)
+    let at = empty_at end gone in
+    let some = has_steps tight at.0 at.1 is.steps (omega (arith, at.2, (by_kind within at.0).count)) in
+    omega (arith, some, ((by_kind within at.0).each at.1).low, ((by_kind within at.0).each at.1).past, at.3)
+
+-- no settings of an emptied box loosely meet every row
+pub none_left : (case : Case) (box end : Box) (settings : Settings) → Drops case box end → HasEmptySpan end → LiesIn box settings → MeetsAllLoosely case settings → ⊥
+none_left case box end settings drops gone lies all =
+    let at = empty_at end gone in
+    let is = lies_at end settings at.0 at.1 (drops_keep case box end settings drops lies all) at.2 in
+    omega (arith, is.from, is.before, at.3)

@@ -1,46 +1,50 @@
 -- The two relays of a row.
-use Rattle.std.specs.Prelude.{slice_get, ◌&&◌, ◌==◌, nat_lt, not}
 use Rattle.std.specs.List.{Contains}
-use Rattle.std.proofs.Common.{◌≡◌, ◌≢◌, ℕ, ◌<◌, Bool, true, false, Option, Some, None, length, arith, rules, refl}
-use Rattle.coord_model.specs.Pairs.{backs, looks_towards, is_exempt}
-use Rattle.coord_model.specs.Rows.{amps_at}
-use Rattle.coord_model.specs.StudyData.{StudyData}
-use Rattle.coord_model.specs.declared.study.Relay.{Relay}
+use Rattle.std.proofs.Common.{◌≡◌, ℕ, ◌<◌, ◌⊎◌, inl, inr, length, arith, sym, subst}
+use Rattle.std.proofs.lemmas.Option.{get_or_from_slice_get, slice_get_within}
 use Rattle.coord_model.specs.declared.study.Row.{Row}
+use Rattle.coord_model.specs.declared.study.RowKind.{RowKind}
+use Rattle.coord_model.specs.declared.study.RowKind.TheVariants.{Interval}
 use Rattle.margin_rows.specs.Box.{Box, FitsBox}
-use Rattle.margin_rows.specs.Case.{Case, rows_in}
+use Rattle.margin_rows.specs.Case.{Case, row_at, rows_in}
 use Rattle.margin_rows.proofs.Listed.{row_facts}
 use Rattle.margin_rows.proofs.Placed.{found_listed}
+use Rattle.margin_rows.proofs.RowKinds.{kind_cases}
 use Rattle.box_range.specs.Kinds.{spans_of}
-use Rattle.box_range.specs.Meeting.{HasRow, HasRelays}
+use Rattle.box_range.specs.Meeting.{Asks, HasRow, HasRelays}
 use Rattle.box_range.specs.declared.kind.Kind.{Kind}
 use Rattle.box_range.specs.declared.kind.Kind.TheVariants.{Pickup, Dial}
+use Rattle.box_range.specs.declared.row.Part.TheVariants.{Backup, Primary}
 
 pub listed : (case : Case) (number : ℕ) (row : Row) → HasRow case number row → Contains (rows_in case) row
 listed case number row has = found_listed (rows_in case) number row has
 
-same_line : (n : ℕ) → (n == n) ≡ true
-same_line n = search rules
+-- the row with a number
+pub row_is : (case : Case) (number : ℕ) (row : Row) → HasRow case number row → row_at case number ≡ row
+row_is case number row has = get_or_from_slice_get (rows_in case) number row (record { kind = Interval; fault = 0; backup = 0; primary = 0 }) has
 
--- no relay looks towards itself
-looks_away : (study : StudyData) (relay : Option Relay) → looks_towards study relay relay ≡ true → ⊥
-looks_away study None e = cc
-looks_away study (Some relay) e = let absurdly = rw (same_line relay.line) at e in cc
+pub number_below : (case : Case) (number : ℕ) (row : Row) → HasRow case number row → number < length (rows_in case)
+number_below case number row has = slice_get_within (rows_in case) number row has
 
-and_left : (a b : Bool) → (a && b) ≡ true → a ≡ true
-and_left true b e = refl
-and_left false b e = e
+-- a row asks something of its backup, or else of its primary, which is the same relay
+pub asks_backup : (case : Case) (row : Row) → Contains (rows_in case) row → Asks row.kind Backup ⊎ (Asks row.kind Primary × (row.backup ≡ row.primary))
+asks_backup case row there = elim (kind_cases case row there) [
+  | inl interval ↦ inl (subst (λ (k : RowKind). Asks k Backup) (sym interval.0) tt)
+  | inr limit ↦ elim limit [
+    | inl least ↦ inl (subst (λ (k : RowKind). Asks k Backup) (sym least.0) tt)
+    | inr most ↦ inr (subst (λ (k : RowKind). Asks k Primary) (sym most.0) tt, most.1)
+  ]
+]
 
--- a relay does not back itself
-pub relays_apart : (case : Case) (row : Row) → Contains (rows_in case) row → row.backup ≢ row.primary
-relays_apart case row there same =
-    let study = case.study in
-    let facts = row_facts case row there in
-    let behind = slice_get study.relays row.backup in
-    let before = slice_get study.relays row.primary in
-    let backing = and_left (backs study row.backup row.primary) (nat_lt 0 (amps_at case.currents row.fault row.backup)) facts.waits in
-    let towards : looks_towards study behind before ≡ true = and_left (looks_towards study behind before) (not (is_exempt study row.backup row.primary)) backing in
-    looks_away study before (rw same at towards)
+-- a row asks something of its primary, or else of its backup, which is the same relay
+pub asks_primary : (case : Case) (row : Row) → Contains (rows_in case) row → Asks row.kind Primary ⊎ (Asks row.kind Backup × (row.backup ≡ row.primary))
+asks_primary case row there = elim (kind_cases case row there) [
+  | inl interval ↦ inl (subst (λ (k : RowKind). Asks k Primary) (sym interval.0) tt)
+  | inr limit ↦ elim limit [
+    | inl least ↦ inr (subst (λ (k : RowKind). Asks k Backup) (sym least.0) tt, least.1)
+    | inr most ↦ inl (subst (λ (k : RowKind). Asks k Primary) (sym most.0) tt)
+  ]
+]
 
 pub relay_counts : (case : Case) (box : Box) (row : Row) → FitsBox case box → Contains (rows_in case) row → HasRelays box row
 relay_counts case box row fits there =

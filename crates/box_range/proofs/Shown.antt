@@ -7,7 +7,7 @@ use Rattle.coord_model.specs.Allowed.{IsSensible}
 use Rattle.coord_model.specs.PartLimits.{FitsRelay}
 use Rattle.coord_model.specs.declared.study.Relay.{Relay}
 use Rattle.coord_model.specs.declared.study.Row.{Row}
-use Rattle.margin_rows.specs.Box.{Box, IsIn, IsShownAs, IsDialStep, IsFilled}
+use Rattle.margin_rows.specs.Box.{Box, IsIn, IsShownAs, IsDialStep, IsFilled, no_steps}
 use Rattle.margin_rows.specs.Case.{Case, rows_in, FitsCase}
 use Rattle.margin_rows.specs.FirstBox.{IsFirstStep}
 use Rattle.margin_rows.specs.declared.span.Span.{Span}
@@ -19,7 +19,8 @@ use Rattle.box_range.specs.declared.kind.Kind.{Kind}
 use Rattle.box_range.specs.declared.kind.Kind.TheVariants.{Pickup, Dial}
 use Rattle.box_range.specs.declared.row.Part.{Part}
 use Rattle.box_range.proofs.Meets.{relay_below}
-use Rattle.box_range.proofs.Spans.{no_span, some_each, has_steps}
+use Rattle.box_range.proofs.Spans.{has_steps}
+use Rattle.margin_rows.proofs.Within.{some_each}
 
 pickup_few : (case : Case) (relay step : ℕ) → FitsCase case → IsFirstStep case relay step → step < 4000
 pickup_few case relay step fits is = go (slice_get case.study.relays relay) refl is
@@ -42,9 +43,9 @@ dial_few case relay step fits is = go (slice_get case.study.relays relay) refl i
 
 step_few : (case : Case) (box : Box) (kind : Kind) (relay step : ℕ) → IsFilled case box → relay < length (spans_of kind box) → IsIn (span_at kind box relay) step → step < 4000
 step_few case box Pickup relay step filled below is =
-    pickup_few case relay step filled.limits (some_each box.pickup (λ i span. IsIn span step → IsFirstStep case i step) no_span (λ i. filled.fits.pickup i step) relay below is)
+    pickup_few case relay step filled.limits (some_each box.pickup (λ i span. IsIn span step → IsFirstStep case i step) no_steps (λ i. filled.fits.pickup i step) relay below is)
 step_few case box Dial relay step filled below is =
-    dial_few case relay step filled.limits (some_each box.dial (λ i span. IsIn span step → IsDialStep case i step) no_span (λ i. filled.fits.dial i step) relay below is)
+    dial_few case relay step filled.limits (some_each box.dial (λ i span. IsIn span step → IsDialStep case i step) no_steps (λ i. filled.fits.dial i step) relay below is)
 
 -- the shown ends are those of the span, in order and small
 pub record AreEnds (span : Steps) (shown : Span) : Type 0 where

@@ -6,7 +6,7 @@ use Rattle.std.proofs.lemmas.Bool.{cases_eq}
 use Rattle.std.proofs.lemmas.List.{length-set, get_or-set_same, get_or-set_other}
 use Rattle.coord_model.specs.Choice.{Settings}
 use Rattle.coord_model.specs.declared.study.Row.{Row}
-use Rattle.margin_rows.specs.Box.{Box, IsIn, AreIn, LiesIn, IsFilled}
+use Rattle.margin_rows.specs.Box.{Box, IsIn, AreIn, LiesIn, IsFilled, no_steps}
 use Rattle.margin_rows.specs.Case.{Case, rows_in}
 use Rattle.margin_rows.specs.declared.span.Steps.{Steps}
 use Rattle.box_range.specs.Drops.{CanMeet, IsTight}
@@ -18,22 +18,24 @@ use Rattle.box_range.specs.declared.kind.Kind.{Kind}
 use Rattle.box_range.specs.declared.kind.Kind.TheVariants.{Pickup, Dial}
 use Rattle.box_range.specs.declared.row.RowSteps.{RowSteps}
 use Rattle.box_range.proofs.Meets.{steps_at, can_rise, can_fall}
-use Rattle.box_range.proofs.Spans.{no_span, has_span, each_some, some_each}
+use Rattle.box_range.proofs.Places.{asks_backup, asks_primary}
+use Rattle.box_range.proofs.Spans.{has_span}
+use Rattle.margin_rows.proofs.Within.{each_some, some_each}
 
 -- the settings with another step for one setting of a relay
 with_setting : Kind → Settings → ℕ → ℕ → Settings
 with_setting Pickup settings relay step = record { pickup = set settings.pickup relay step; dial = settings.dial }
 with_setting Dial settings relay step = record { pickup = settings.pickup; dial = set settings.dial relay step }
 
-set_in : (spans : List Steps) (steps : List ℕ) (relay step : ℕ) → relay < length spans → AreIn spans steps → IsIn (get_or spans relay no_span) step → AreIn spans (set steps relay step)
+set_in : (spans : List Steps) (steps : List ℕ) (relay step : ℕ) → relay < length spans → AreIn spans steps → IsIn (get_or spans relay no_steps) step → AreIn spans (set steps relay step)
 set_in spans steps relay step below are is = record {
   count = length-set steps relay step ∙ are.count;
-  each = each_some spans (λ i span. IsIn span (slice_index (set steps relay step) i)) no_span (λ i inside.
+  each = each_some spans (λ i span. IsIn span (slice_index (set steps relay step) i)) no_steps (λ i inside.
       elim (cases_eq i relay) [
         | inl same ↦
             let there : relay < length steps = omega (arith, below, are.count) in
             rw same (rw (get_or-set_same steps relay step 0 there) is)
-        | inr other ↦ rw (get_or-set_other steps relay i step 0 other) (some_each spans (λ j span. IsIn span (slice_index steps j)) no_span are.each i inside)
+        | inr other ↦ rw (get_or-set_other steps relay i step 0 other) (some_each spans (λ j span. IsIn span (slice_index steps j)) no_steps are.each i inside)
       ]);
 }
 
@@ -72,13 +74,17 @@ end_in highest span some = record { from = omega (arith, some); before = omega (
 module _ (case : Case) (box : Box) (row : Row) (filled : IsFilled case box) (there : Contains (rows_in case) row) (settled : IsSettled case box row) where
   backup_can : (side : Side) (kind : Kind) → (span_at kind box row.backup).low < (span_at kind box row.backup).past → CanMeet case box kind row.backup (end_of side (span_at kind box row.backup)) row
   backup_can lowest kind some = settled.low kind
-  backup_can highest kind some =
-      can_rise case box row filled there kind (span_at kind box row.backup).low ((span_at kind box row.backup).past - 1) (omega (arith, some)) (omega (arith, some)) (settled.low kind)
+  backup_can highest kind some = elim (asks_backup case row there) [
+    | inl asks ↦ can_rise case box row filled there asks kind (span_at kind box row.backup).low ((span_at kind box row.backup).past - 1) (omega (arith, some)) (omega (arith, some)) (settled.low kind)
+    | inr other ↦ subst (λ (r : ℕ). CanMeet case box kind r ((span_at kind box r).past - 1) row) (sym other.1) (settled.high kind)
+  ]
 
   primary_can : (side : Side) (kind : Kind) → (span_at kind box row.primary).low < (span_at kind box row.primary).past → CanMeet case box kind row.primary (end_of side (span_at kind box row.primary)) row
   primary_can highest kind some = settled.high kind
-  primary_can lowest kind some =
-      can_fall case box row filled there kind ((span_at kind box row.primary).past - 1) (span_at kind box row.primary).low (omega (arith, some)) (omega arith) (settled.high kind)
+  primary_can lowest kind some = elim (asks_primary case row there) [
+    | inl asks ↦ can_fall case box row filled there asks kind ((span_at kind box row.primary).past - 1) (span_at kind box row.primary).low (omega (arith, some)) (omega arith) (settled.high kind)
+    | inr other ↦ subst (λ (r : ℕ). CanMeet case box kind r (span_at kind box r).low row) other.1 (settled.low kind)
+  ]
 
   end_can : (side : Side) (kind : Kind) (relay : ℕ) → relay < length (spans_of kind box) → (span_at kind box relay).low < (span_at kind box relay).past
       → CanMeet case box kind relay (end_of side (span_at kind box relay)) row

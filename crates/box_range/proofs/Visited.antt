@@ -11,7 +11,7 @@ use Rattle.margin_rows.proofs.Listed.{row_facts}
 use Rattle.box_range.specs.Drops.{CanMeet}
 use Rattle.box_range.specs.Kinds.{span_at}
 use Rattle.box_range.specs.Looks.{IsSettling, IsUnmoved}
-use Rattle.box_range.specs.Meeting.{MeetsWith, best_steps, with_step, relay_of}
+use Rattle.box_range.specs.Meeting.{Asks, MeetsWith, best_steps, with_step, relay_of}
 use Rattle.box_range.specs.Rounds.{IsDue, IsDueOrSettled, HasPlaces, AreFlagged, IsIdle, IsBusy}
 use Rattle.box_range.specs.Settled.{IsSettled}
 use Rattle.box_range.specs.declared.kind.Kind.{Kind}
@@ -21,6 +21,7 @@ use Rattle.box_range.specs.declared.row.Part.{Part}
 use Rattle.box_range.specs.declared.row.Part.TheVariants.{Backup, Primary}
 use Rattle.box_range.specs.declared.row.RowSteps.{RowSteps}
 use Rattle.box_range.proofs.Meets.{with_can, can_with, can_in}
+use Rattle.box_range.proofs.Places.{asks_backup, asks_primary}
 
 -- a row is settled still where its relays' spans are as before
 module _ (case : Case) (box later : Box) (row : Row) (filled : IsFilled case box) (filled_later : IsFilled case later) (there : Contains (rows_in case) row)
@@ -33,17 +34,29 @@ module _ (case : Case) (box later : Box) (row : Row) (filled : IsFilled case box
   same_relay Backup kind = same_backup kind
   same_relay Primary kind = same_primary kind
 
-  still_can : (part : Part) (kind : Kind) (step : ℕ) → CanMeet case box kind (relay_of part row) step row → CanMeet case later kind (relay_of part row) step row
-  still_can part kind step m =
+  still_can : (part : Part) (kind : Kind) (step : ℕ) → Asks row.kind part → CanMeet case box kind (relay_of part row) step row → CanMeet case later kind (relay_of part row) step row
+  still_can part kind step asks m =
       let is = can_in case box row filled there part kind step m in
       let meets = can_with case box row filled there part kind step m in
-      with_can case later row filled_later there part kind step (subst (λ (s : Steps). IsIn s step) (sym (same_relay part kind)) is)
+      with_can case later row filled_later there part kind step asks (subst (λ (s : Steps). IsIn s step) (sym (same_relay part kind)) is)
       (subst (λ (s : RowSteps). MeetsWith case row (with_step part kind s step)) (sym same_best) meets)
+
+  still_low : (kind : Kind) (step : ℕ) → CanMeet case box kind row.backup step row → CanMeet case later kind row.backup step row
+  still_low kind step m = elim (asks_backup case row there) [
+    | inl asks ↦ still_can Backup kind step asks m
+    | inr other ↦ subst (λ (r : ℕ). CanMeet case later kind r step row) (sym other.1) (still_can Primary kind step other.0 (subst (λ (r : ℕ). CanMeet case box kind r step row) other.1 m))
+  ]
+
+  still_high : (kind : Kind) (step : ℕ) → CanMeet case box kind row.primary step row → CanMeet case later kind row.primary step row
+  still_high kind step m = elim (asks_primary case row there) [
+    | inl asks ↦ still_can Primary kind step asks m
+    | inr other ↦ subst (λ (r : ℕ). CanMeet case later kind r step row) other.1 (still_can Backup kind step other.0 (subst (λ (r : ℕ). CanMeet case box kind r step row) (sym other.1) m))
+  ]
 
   pub still_settled : IsSettled case box row → IsSettled case later row
   still_settled settled = record {
-    low = λ kind. subst (λ (s : Steps). CanMeet case later kind row.backup s.low row) (sym (same_backup kind)) (still_can Backup kind (span_at kind box row.backup).low (settled.low kind));
-    high = λ kind. subst (λ (s : Steps). CanMeet case later kind row.primary (s.past - 1) row) (sym (same_primary kind)) (still_can Primary kind ((span_at kind box row.primary).past - 1) (settled.high kind));
+    low = λ kind. subst (λ (s : Steps). CanMeet case later kind row.backup s.low row) (sym (same_backup kind)) (still_low kind (span_at kind box row.backup).low (settled.low kind));
+    high = λ kind. subst (λ (s : Steps). CanMeet case later kind row.primary (s.past - 1) row) (sym (same_primary kind)) (still_high kind ((span_at kind box row.primary).past - 1) (settled.high kind));
   }
 
 pub row_places : (case : Case) (flags : List Bool) (row : Row) → FitsCase case → Contains (rows_in case) row → length flags ≡ 96 → HasPlaces flags row

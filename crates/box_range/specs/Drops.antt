@@ -2,11 +2,11 @@
 use Rattle.std.specs.Prelude.{◌≡◌, ℕ, ◌<◌, Contains, All}
 use Rattle.coord_model.specs.Choice.{Settings}
 use Rattle.coord_model.specs.declared.study.Row.{Row}
-use Rattle.margin_rows.specs.Box.{Box, LiesIn, HasNoEmptySpan}
+use Rattle.margin_rows.specs.Box.{Box, HasEmptySpan, LiesIn, HasNoEmptySpan}
 use Rattle.margin_rows.specs.Case.{Case, rows_in}
 use Rattle.margin_rows.specs.Margin.{MeetsLoosely}
 use Rattle.margin_rows.specs.declared.span.Steps.{Steps}
-use Rattle.box_range.specs.Kinds.{step_of, with_span, HasSpan, HasEmptySpan, Side, end_of, without_end}
+use Rattle.box_range.specs.Kinds.{step_of, with_span, HasSpan, Side, end_of, without_end}
 use Rattle.box_range.specs.declared.kind.Kind.{Kind}
 
 -- some choice of the box with this step of the relay loosely meets the row

@@ -1,8 +1,7 @@
 -- What dropping the ends of a box comes to (ours).
-use Rattle.margin_rows.specs.Box.{Box}
+use Rattle.margin_rows.specs.Box.{Box, HasEmptySpan}
 use Rattle.margin_rows.specs.Case.{Case}
 use Rattle.box_range.specs.Drops.{Drops, IsTight}
-use Rattle.box_range.specs.Kinds.{HasEmptySpan}
 use Rattle.box_range.specs.declared.tightening.Tightened.{Tightened}
 use Rattle.box_range.specs.declared.tightening.Tightened.TheVariants.{Tight, Emptied}
 

@@ -1,7 +1,8 @@
 -- The pickup spans and the dial spans of a box, and the ends of a span (ours).
-use Rattle.std.specs.Prelude.{◌≡◌, ℕ, suc, ◌-◌, List, Some, slice_get, slice_index, slice_index_or}
+use Rattle.std.specs.Prelude.{◌≡◌, ℕ, suc, ◌-◌, List, Some, slice_get, slice_index}
 use Rattle.coord_model.specs.Choice.{Settings}
-use Rattle.margin_rows.specs.Box.{Box, IsEmpty, with_pickup, with_dial}
+use Rattle.margin_rows.specs.Box.{Box}
+use Rattle.margin_rows.specs.Within.{span_of, with_pickup, with_dial}
 use Rattle.margin_rows.specs.declared.span.Steps.{Steps}
 use Rattle.box_range.specs.declared.kind.Kind.{Kind}
 use Rattle.box_range.specs.declared.kind.Kind.TheVariants.{Pickup, Dial}
@@ -23,15 +24,11 @@ with_span Dial box relay span = with_dial box relay span
 
 -- the span of a relay; past the relays, an empty one
 abbrev pub span_at : Kind → Box → ℕ → Steps
-span_at kind box relay = slice_index_or (spans_of kind box) relay (record { low = 0; past = 0 })
+span_at kind box relay = span_of (spans_of kind box) relay
 
 -- the relay has this span in the box
 abbrev pub HasSpan : Box → Kind → ℕ → Steps → Type 0
 HasSpan box kind relay span = slice_get (spans_of kind box) relay ≡ Some span
-
--- some span of the box has no step
-abbrev pub HasEmptySpan : Box → Type 0
-HasEmptySpan box = (kind : Kind) × (relay : ℕ) × (span : Steps) × HasSpan box kind relay span × IsEmpty span
 
 -- the two ends of a span
 pub data Side : Type 0 where

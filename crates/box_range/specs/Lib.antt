@@ -5,3 +5,4 @@ pub mod Settled
 pub mod Looks
 pub mod Rounds
 pub mod Ends
+pub mod Whole

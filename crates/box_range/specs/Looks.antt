@@ -1,9 +1,9 @@
 -- What a look at a row makes of a box (ours).
 use Rattle.std.specs.Prelude.{◌≡◌, ℕ, ◌<◌, ◌⊎◌, true, false}
 use Rattle.coord_model.specs.declared.study.Row.{Row}
-use Rattle.margin_rows.specs.Box.{Box, IsFilled}
+use Rattle.margin_rows.specs.Box.{Box, HasEmptySpan, IsFilled}
 use Rattle.margin_rows.specs.Case.{Case}
-use Rattle.box_range.specs.Kinds.{span_at, HasEmptySpan}
+use Rattle.box_range.specs.Kinds.{span_at}
 use Rattle.box_range.specs.Settled.{IsSettled, IsCut, size}
 use Rattle.box_range.specs.declared.kind.Kind.{Kind}
 use Rattle.box_range.specs.declared.look.Look.{Look}

@@ -1,12 +1,14 @@
 -- Whether a row can be met in a box, by the steps of its two relays (ours).
-use Rattle.std.specs.Prelude.{◌≡◌, ℕ, ◌+◌, ◌-◌, ◌*◌, ◌<◌, ◌≤◌, Some, length, slice_get}
+use Rattle.std.specs.Prelude.{◌≡◌, ℕ, ◌-◌, ◌*◌, ◌<◌, Some, length, slice_get}
 use Rattle.coord_model.specs.Choice.{Settings}
 use Rattle.coord_model.specs.declared.study.Row.{Row}
+use Rattle.coord_model.specs.declared.study.RowKind.{RowKind}
+use Rattle.coord_model.specs.declared.study.RowKind.TheVariants.{Interval, Least, Most}
 use Rattle.margin_rows.specs.Box.{Box, LiesIn, IsDialStep}
 use Rattle.margin_rows.specs.Case.{Case, rows_in}
 use Rattle.margin_rows.specs.Dial.{dial_at_step}
 use Rattle.margin_rows.specs.FirstBox.{IsFirstStep}
-use Rattle.margin_rows.specs.Margin.{interval_ps, MeetsLoosely}
+use Rattle.margin_rows.specs.Margin.{Meets, MeetsLoosely}
 use Rattle.margin_rows.specs.Times.{time_at}
 use Rattle.box_range.specs.Kinds.{spans_of, span_at}
 use Rattle.box_range.specs.declared.kind.Kind.{Kind}
@@ -58,8 +60,16 @@ with_step Backup Dial steps step = record steps { backup_dial = step }
 with_step Primary Pickup steps step = record steps { primary_pickup = step }
 with_step Primary Dial steps step = record steps { primary_dial = step }
 
+-- a row of this kind asks something of the relay that has this part: of its backup to be slow, of its primary to be fast
+abbrev pub Asks : RowKind → Part → Type 0
+Asks Interval part = Unit {0}
+Asks Least Backup = Unit {0}
+Asks Least Primary = ⊥
+Asks Most Backup = ⊥
+Asks Most Primary = Unit {0}
+
 -- the row is loosely met with these steps of its relays
 abbrev pub MeetsWith : Case → Row → RowSteps → Type 0
 MeetsWith case row steps =
-    dial_at_step case.study row.primary steps.primary_dial * (time_at case row.fault row.primary steps.primary_pickup).lower + interval_ps case.study
-    ≤ dial_at_step case.study row.backup steps.backup_dial * (time_at case row.fault row.backup steps.backup_pickup).upper
+    Meets case.study row (dial_at_step case.study row.backup steps.backup_dial * (time_at case row.fault row.backup steps.backup_pickup).upper)
+    (dial_at_step case.study row.primary steps.primary_dial * (time_at case row.fault row.primary steps.primary_pickup).lower)

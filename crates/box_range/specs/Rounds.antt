@@ -1,9 +1,8 @@
 -- What a round of looks at the rows makes of a box: a row is looked at again where a relay of it is flagged (ours).
 use Rattle.std.specs.Prelude.{◌≡◌, ℕ, ◌<◌, ◌⊎◌, Bool, true, false, List, length, Contains, slice_index_or}
 use Rattle.coord_model.specs.declared.study.Row.{Row}
-use Rattle.margin_rows.specs.Box.{Box, IsFilled}
+use Rattle.margin_rows.specs.Box.{Box, HasEmptySpan, IsFilled}
 use Rattle.margin_rows.specs.Case.{Case, rows_in}
-use Rattle.box_range.specs.Kinds.{HasEmptySpan}
 use Rattle.box_range.specs.Settled.{IsSettled, size}
 use Rattle.box_range.specs.declared.look.Moved.{Moved}
 use Rattle.box_range.specs.declared.round.Progress.{Progress}

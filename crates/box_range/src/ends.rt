@@ -4,7 +4,7 @@ ghost use Rattle.std.specs.Prelude.{◌≡◌, ℕ, ◌-◌, ◌<◌, ◌≤◌,
 ghost use Rattle.margin_rows.specs.Box.{IsIn, IsFilled};
 ghost use Rattle.box_range.specs.Drops.{CanMeet};
 ghost use Rattle.box_range.specs.Kinds.{span_at};
-ghost use Rattle.box_range.specs.Meeting.{HasRow, IsMeetable};
+ghost use Rattle.box_range.specs.Meeting.{HasRow, Asks, IsMeetable};
 ghost use Rattle.box_range.specs.Settled.{MeetsAtLow, MeetsAtHigh, IsCut, DiffersAt, size};
 
 use crate::kind::{Kind, set_span, span};
@@ -15,6 +15,7 @@ use margin_rows::{Instance, Ranges};
 pub fn raise(inst: &Instance, ranges: &mut Ranges, at: Place, kind: Kind) -> bool
     requires filled { IsFilled inst.now ranges.old }
     requires place { HasRow inst.now at.number at.row }
+    requires asks { Asks at.row.kind Part.Backup }
     requires meetable { IsMeetable inst.now ranges.old at.row }
 
     ensures cut { IsCut inst.now at.row ranges.old ranges.new }
@@ -36,6 +37,7 @@ pub fn raise(inst: &Instance, ranges: &mut Ranges, at: Place, kind: Kind) -> boo
 pub fn lower(inst: &Instance, ranges: &mut Ranges, at: Place, kind: Kind) -> bool
     requires filled { IsFilled inst.now ranges.old }
     requires place { HasRow inst.now at.number at.row }
+    requires asks { Asks at.row.kind Part.Primary }
     requires meetable { IsMeetable inst.now ranges.old at.row }
 
     ensures cut { IsCut inst.now at.row ranges.old ranges.new }
@@ -64,6 +66,7 @@ fn lowest(
 ) -> u16
     requires filled { IsFilled inst.now ranges.now }
     requires place { HasRow inst.now at.number at.row }
+    requires asks { Asks at.row.kind Part.Backup }
     requires low { IsIn (span_at kind ranges.now at.row.backup) low }
     requires high { IsIn (span_at kind ranges.now at.row.backup) high }
     requires ordered { low ≤ high }
@@ -99,6 +102,7 @@ fn highest(
 ) -> u16
     requires filled { IsFilled inst.now ranges.now }
     requires place { HasRow inst.now at.number at.row }
+    requires asks { Asks at.row.kind Part.Primary }
     requires low { IsIn (span_at kind ranges.now at.row.primary) low }
     requires high { IsIn (span_at kind ranges.now at.row.primary) high }
     requires ordered { low ≤ high }

@@ -10,7 +10,7 @@ ghost use Rattle.box_range.specs.declared.kind.Kind.TheVariants.{Dial};
 
 use crate::ends::{lower, raise};
 use crate::kind::{Kind, set_span, span};
-use crate::row::{Place, is_meetable};
+use crate::row::{Part, Place, asks, is_meetable};
 use margin_rows::{Instance, Ranges};
 
 /// What a look at a row made of the box.
@@ -58,6 +58,8 @@ fn settle(inst: &Instance, ranges: &mut Ranges, at: Place) -> Moved
 }
 
 /// Cuts the useless steps at the low ends of the backup's spans, and says whether there were any.
+///
+/// There are none where the row does not ask its backup to be slow.
 fn raise_both(inst: &Instance, ranges: &mut Ranges, at: Place) -> bool
     requires filled { IsFilled inst.now ranges.old }
     requires place { HasRow inst.now at.number at.row }
@@ -69,12 +71,17 @@ fn raise_both(inst: &Instance, ranges: &mut Ranges, at: Place) -> bool
     ensures unchanged { result ≡ false → ranges.new ≡ ranges.old }
     ensures fewer { result ≡ true → size ranges.new < size ranges.old }
 {
+    if !asks(at.row.kind, Part::Backup) {
+        return false;
+    }
     let pickup = raise(inst, ranges, at, Kind::Pickup);
     let dial = raise(inst, ranges, at, Kind::Dial);
     pickup || dial
 }
 
 /// Cuts the useless steps at the high ends of the primary's spans, and says whether there were any.
+///
+/// There are none where the row does not ask its primary to be fast.
 fn lower_both(inst: &Instance, ranges: &mut Ranges, at: Place) -> bool
     requires filled { IsFilled inst.now ranges.old }
     requires place { HasRow inst.now at.number at.row }
@@ -86,6 +93,9 @@ fn lower_both(inst: &Instance, ranges: &mut Ranges, at: Place) -> bool
     ensures unchanged { result ≡ false → ranges.new ≡ ranges.old }
     ensures fewer { result ≡ true → size ranges.new < size ranges.old }
 {
+    if !asks(at.row.kind, Part::Primary) {
+        return false;
+    }
     let pickup = lower(inst, ranges, at, Kind::Pickup);
     let dial = lower(inst, ranges, at, Kind::Dial);
     pickup || dial

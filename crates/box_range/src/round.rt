@@ -26,8 +26,15 @@ pub enum Progress {
 /// Looks at each row with a relay that is due or loses steps meanwhile.
 ///
 /// `due` flags the relays whose rows are to be looked at; `next` flags none before, and after it those that lost steps.
-pub fn round(inst: &Instance, ranges: &mut Ranges, due: &[bool], next: &mut [bool]) -> Progress
+pub fn round(
+    inst: &Instance,
+    ranges: &mut Ranges,
+    rows: u16,
+    due: &[bool],
+    next: &mut [bool],
+) -> Progress
     requires filled { IsFilled inst.now ranges.old }
+    requires rows { rows ≡ length (rows_in inst.now) }
     requires places { length next.old ≡ 96 }
     requires none { (relay : ℕ) → slice_index_or next.old relay false ≡ false }
     requires rest { (row : Row) → Contains (rows_in inst.now) row → IsDueOrSettled inst.now ranges.old due.now row }
@@ -36,7 +43,7 @@ pub fn round(inst: &Instance, ranges: &mut Ranges, due: &[bool], next: &mut [boo
     ensures made { IsRound inst.now ranges.old ranges.new next.new result }
 {
     let mut moved = false;
-    for number in 0..inst.rows().len() as u16 {
+    for number in 0..rows {
         match visit(inst, ranges, place(inst, number), due, next) {
             Progress::Emptied => return Progress::Emptied,
             Progress::Kept => {}

@@ -3,11 +3,11 @@ ghost use Rattle.std.specs.Prelude.{◌≡◌, ◌<◌, ◌^◌, ◌↔◌, IsTr
 ghost use Rattle.margin_rows.specs.Box.{IsIn, HasNoEmptySpan, IsFilled};
 ghost use Rattle.box_range.specs.Drops.{CanMeet};
 ghost use Rattle.box_range.specs.Kinds.{span_at};
-ghost use Rattle.box_range.specs.Meeting.{HasRow, IsMeetable, AreFirst, MeetsWith, HasRelays, relay_of, best_steps, with_step};
+ghost use Rattle.box_range.specs.Meeting.{HasRow, Asks, IsMeetable, AreFirst, MeetsWith, HasRelays, relay_of, best_steps, with_step};
 
 use crate::kind::{Kind, span};
-use coord_model::Row;
-use margin_rows::{Instance, Ranges, dial_at};
+use coord_model::{Row, RowKind};
+use margin_rows::{Instance, Ranges, dial_at, row_margin};
 
 /// A row and its number.
 #[derive(Clone, Copy)]
@@ -52,6 +52,7 @@ pub fn can_meet(
 ) -> bool
     requires filled { IsFilled inst.now ranges.now }
     requires place { HasRow inst.now at.number at.row }
+    requires asks { Asks at.row.kind part }
     requires step { IsIn (span_at kind ranges.now (relay_of part at.row)) step }
     ensures { IsTrue result ↔ CanMeet inst.now ranges.now kind (relay_of part at.row) step at.row }
 {
@@ -112,14 +113,25 @@ fn with_primary(steps: RowSteps, kind: Kind, step: u16) -> RowSteps
     }
 }
 
+/// Whether a row of this kind asks something of a relay: of its backup to be slow, of its primary to be fast.
+pub fn asks(kind: RowKind, part: Part) -> bool
+    ensures { IsTrue result ↔ Asks kind part }
+{
+    match (kind, part) {
+        (RowKind::Least, Part::Primary) | (RowKind::Most, Part::Backup) => false,
+        _ => true,
+    }
+}
+
 /// Whether a row is loosely met with these steps of its relays.
 fn meets(inst: &Instance, at: Place, steps: RowSteps) -> bool
     requires place { HasRow inst.now at.number at.row }
     requires steps { AreFirst inst.now at.row steps }
     ensures { IsTrue result ↔ MeetsWith inst.now at.row steps }
 {
-    let (backup, primary) = inst.row_times(at.number, steps.backup_pickup, steps.primary_pickup);
-    let latest = dial_at(inst, at.row.backup, steps.backup_dial) * backup.1;
-    let earliest = dial_at(inst, at.row.primary, steps.primary_dial) * primary.0;
-    earliest + inst.interval_ps() <= latest
+    let backup = inst.backup_time(at.number, steps.backup_pickup).upper;
+    let primary = inst.primary_time(at.number, steps.primary_pickup).lower;
+    let latest = dial_at(inst, at.row.backup, steps.backup_dial) * backup;
+    let earliest = dial_at(inst, at.row.primary, steps.primary_dial) * primary;
+    row_margin(inst, at.number, latest, earliest) >= 0
 }

@@ -3,19 +3,21 @@ ghost use Rattle.std.specs.Prelude.{◌≡◌, length};
 
 use crate::{Tightened, tighten};
 use coord_model::NoMemory;
+use hand_studies::{Limits, parallel_lines, two_lines};
 use margin_rows::{BuildFault, Instance, Ranges, Span};
 use std::alloc::Global;
 
-mod studies;
-
-use studies::{parallel_lines, two_lines};
+const NO_LIMITS: Limits = Limits {
+    least_ms: 0,
+    most_ms: 0,
+};
 
 // At multiple 10 each relay takes 1.5 s. The first one's dial is at least 0.050 + 0.200, and the second one's at most
 // 1.000 - 0.200.
 #[test]
 fn a_backup_rises_and_its_primary_falls(rt: HostRuntime) -> Result<(), BuildFault> {
     let alloc = rt.alloc();
-    let tight = tightened(alloc, &two_lines(alloc, 20, 0)?)?;
+    let tight = tightened(alloc, &two_lines(alloc, 20, 0, NO_LIMITS)?)?;
     let want = Spans {
         pickups: [(0, 0), (0, 0)],
         dials: [(4, 19), (0, 15)],
@@ -24,11 +26,41 @@ fn a_backup_rises_and_its_primary_falls(rt: HostRuntime) -> Result<(), BuildFaul
     Ok(())
 }
 
+// With a least time of 300 ms and a greatest of 600 ms the second one's dial is 0.200 to 0.400, and so the first one's at
+// least 0.400.
+#[test]
+fn a_least_time_raises_and_a_greatest_lowers(rt: HostRuntime) -> Result<(), BuildFault> {
+    let alloc = rt.alloc();
+    let limits = Limits {
+        least_ms: 300,
+        most_ms: 600,
+    };
+    let tight = tightened(alloc, &two_lines(alloc, 20, 0, limits)?)?;
+    let want = Spans {
+        pickups: [(0, 0), (0, 0)],
+        dials: [(7, 19), (3, 7)],
+    };
+    assert!(rt; tight == Some(want));
+    Ok(())
+}
+
+// At its lowest dial the second relay takes 75 ms.
+#[test]
+fn a_greatest_time_below_every_dial_empties_the_box(rt: HostRuntime) -> Result<(), BuildFault> {
+    let alloc = rt.alloc();
+    let limits = Limits {
+        least_ms: 0,
+        most_ms: 74,
+    };
+    assert!(rt; tightened(alloc, &two_lines(alloc, 20, 0, limits)?)? == None);
+    Ok(())
+}
+
 // The first relay takes at most 0.200 * 1.5 s, and the second at least 0.050 * 1.5 s: 225 ms are less than 300.
 #[test]
 fn a_row_that_no_choice_meets_empties_the_box(rt: HostRuntime) -> Result<(), BuildFault> {
     let alloc = rt.alloc();
-    assert!(rt; tightened(alloc, &two_lines(alloc, 4, 0)?)? == None);
+    assert!(rt; tightened(alloc, &two_lines(alloc, 4, 0, NO_LIMITS)?)? == None);
     Ok(())
 }
 
@@ -36,7 +68,7 @@ fn a_row_that_no_choice_meets_empties_the_box(rt: HostRuntime) -> Result<(), Bui
 #[test]
 fn a_box_with_an_empty_span_is_emptied(rt: HostRuntime) -> Result<(), BuildFault> {
     let alloc = rt.alloc();
-    assert!(rt; tightened(alloc, &two_lines(alloc, 20, 500)?)? == None);
+    assert!(rt; tightened(alloc, &two_lines(alloc, 20, 500, NO_LIMITS)?)? == None);
     Ok(())
 }
 

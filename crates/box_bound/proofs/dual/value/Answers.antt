@@ -4,8 +4,9 @@ use Rattle.std.proofs.lemmas.Int.{ints, to_z-of_z}
 use mir.Syntax.{w128}
 use mir.Val.{SFits, to_z}
 use Rattle.coord_model.specs.StudyData.{StudyData}
-use Rattle.box_bound.proofs.Duality.{weak_duality}
+use Rattle.box_bound.proofs.Duality.{bound_costs, rows_met, weak_duality}
 use Rattle.box_bound.proofs.Totals.{IsNear, sum_more, sum_all, near_more, near_fits}
+use Rattle.box_bound.proofs.Values.{value_only, value_rises}
 use Rattle.box_bound.proofs.dual.value.Goals as goal
 use Rattle.box_bound.proofs.dual.value.Goals.{After-least_part-sum}
 
@@ -31,7 +32,17 @@ returns-clause-exact c =
 
 pub returns-clause-at_most_cost : goal.returns-clause-at_most_cost
 returns-clause-at_most_cost c settings lies met =
-    weak_duality c.args.inst.now c.args.ranges.now c.args.lambda c.args.weights.now settings _ c.requires.fits c.requires.weights (returns-clause-exact c) lies met
+    weak_duality c.args.inst.now c.args.ranges.now c.args.lambda c.args.weights.now settings _ c.requires.fits c.requires.weights (returns-clause-exact c) lies
+    (rows_met c.args.inst.now c.args.ranges.now c.args.lambda c.args.weights.now settings c.args.weights.now c.requires.weights.rows met)
+
+pub returns-clause-only : goal.returns-clause-only
+returns-clause-only c = λ other is. value_only c.args.inst.now c.args.ranges.now c.args.lambda c.args.weights.now other _ c.requires.steps c.requires.fits.dials is (returns-clause-exact c)
+
+pub returns-clause-rises : goal.returns-clause-rises
+returns-clause-rises c = λ outer other within is. value_rises c.args.inst.now c.args.ranges.now outer c.args.lambda c.args.weights.now _ other within c.requires.steps c.requires.fits.dials (returns-clause-exact c) is
+
+pub returns-clause-costs : goal.returns-clause-costs
+returns-clause-costs c = λ some settings lies met. bound_costs c.args.inst.now c.args.ranges.now settings c.args.lambda _ c.study.ensures.fits c.requires.fits lies some (returns-clause-at_most_cost c settings lies met)
 
 pub returns-clause-void : goal.returns-clause-void
 returns-clause-void c none above settings lies met = void _ c.args.lambda _ none above (returns-clause-at_most_cost c settings lies met)

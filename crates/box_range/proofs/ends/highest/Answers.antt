@@ -17,7 +17,7 @@ search-preserved c =
       met = c.search.invariant.met;
       unmet = λ step above to m. elim (cases_lt c.search.high step) [
         | inl higher ↦ c.search.invariant.unmet step higher to m
-        | inr lower ↦ let absurdly = rw c.if-can_meet-2.false at (c.can_meet-in-search.ensures.1 (can_fall case box row c.requires.filled (listed case c.args.at.number row c.requires.place) c.args.kind step middle
+        | inr lower ↦ let absurdly = rw c.if-can_meet-2.false at (c.can_meet-in-search.ensures.1 (can_fall case box row c.requires.filled (listed case c.args.at.number row c.requires.place) c.requires.asks c.args.kind step middle
             (omega (arith, above)) (omega (arith, c.requires.low.from)) m)) in cc
       ];
     }

@@ -35,7 +35,7 @@ highest-high-requires-clause-met c =
     let row = c.args.at.row in
     let there = listed case c.args.at.number row c.requires.place in
     let ends = shown_ends case c.args.ranges.now row Primary c.args.kind c.span-steps.result c.requires.filled there c.span-steps.ensures in
-    rw ends.low (meets_lowest case c.args.ranges.now row c.requires.filled there c.args.kind c.requires.meetable)
+    rw ends.low (meets_lowest case c.args.ranges.now row c.requires.filled there c.requires.asks c.args.kind c.requires.meetable)
 
 pub returns-then-high-steps-clause-cut : goal.returns-then-high-steps-clause-cut
 returns-then-high-steps-clause-cut c = uncut c.args.inst.now c.args.at.row c.args.ranges.now

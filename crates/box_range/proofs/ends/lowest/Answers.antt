@@ -17,7 +17,7 @@ search-preserved c =
       met = c.search.invariant.met;
       unmet = λ step from below m. elim (cases_lt step c.search.low) [
         | inl lower ↦ c.search.invariant.unmet step from lower m
-        | inr higher ↦ let absurdly = rw c.if-can_meet-2.false at (c.can_meet-in-search.ensures.1 (can_rise case box row c.requires.filled (listed case c.args.at.number row c.requires.place) c.args.kind step middle
+        | inr higher ↦ let absurdly = rw c.if-can_meet-2.false at (c.can_meet-in-search.ensures.1 (can_rise case box row c.requires.filled (listed case c.args.at.number row c.requires.place) c.requires.asks c.args.kind step middle
             (omega (arith, below)) (omega (arith, c.requires.high.before)) m)) in cc
       ];
     }

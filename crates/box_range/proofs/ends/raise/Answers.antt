@@ -1,11 +1,16 @@
 use Rattle.std.proofs.Common.{◌+◌, arith}
 use Rattle.box_range.specs.declared.row.Part.TheVariants.{Backup}
 use Rattle.box_range.proofs.Cuts.{uncut}
-use Rattle.box_range.proofs.Meets.{meets_highest}
+use Rattle.box_range.proofs.Meets.{meets_highest, relay_below}
 use Rattle.box_range.proofs.Narrowed.{raised, raised_end}
 use Rattle.box_range.proofs.Places.{listed}
 use Rattle.box_range.proofs.Shown.{shown_ends}
 use Rattle.box_range.proofs.ends.raise.Goals as goal
+
+pub span-steps-requires : goal.span-steps-requires
+span-steps-requires c =
+    let case = c.args.inst.now in
+    relay_below case c.args.ranges.now c.args.at.row c.requires.filled (listed case c.args.at.number c.args.at.row c.requires.place) Backup c.args.kind
 
 pub lowest-low-requires-clause-low : goal.lowest-low-requires-clause-low
 lowest-low-requires-clause-low c =
@@ -31,7 +36,7 @@ lowest-low-requires-clause-met c =
     let row = c.args.at.row in
     let there = listed case c.args.at.number row c.requires.place in
     let ends = shown_ends case c.args.ranges.now row Backup c.args.kind c.span-steps.result c.requires.filled there c.span-steps.ensures in
-    rw ends.high at (meets_highest case c.args.ranges.now row c.requires.filled there c.args.kind c.requires.meetable)
+    rw ends.high at (meets_highest case c.args.ranges.now row c.requires.filled there c.requires.asks c.args.kind c.requires.meetable)
 
 pub returns-then-low-steps-clause-cut : goal.returns-then-low-steps-clause-cut
 returns-then-low-steps-clause-cut c = uncut c.args.inst.now c.args.at.row c.args.ranges.now

@@ -1,8 +1,10 @@
+use Rattle.std.proofs.Common.{inl, inr}
 use Rattle.box_range.specs.Settled.{MeetsAtHigh}
 use Rattle.box_range.specs.declared.kind.Kind.{Kind}
 use Rattle.box_range.specs.declared.kind.Kind.TheVariants.{Pickup}
-use Rattle.box_range.proofs.Cuts.{cut_cut, cut_filled, cut_meetable, cut_high_end, both_kinds}
-use Rattle.box_range.proofs.Places.{listed, relay_counts}
+use Rattle.box_range.proofs.Cuts.{cut_cut, cut_filled, cut_meetable, cut_high_end, both_kinds, uncut}
+use Rattle.box_range.proofs.Meets.{high_meets}
+use Rattle.box_range.proofs.Places.{asks_primary, listed, relay_counts}
 use Rattle.box_range.proofs.look.lower_both.Goals as goal
 
 pub lower-dial-requires-clause-filled : goal.lower-dial-requires-clause-filled
@@ -40,3 +42,16 @@ returns-else-pickup-clause-settled c =
     both_kinds (λ (kind : Kind). MeetsAtHigh case c.lower-dial.new.ranges row kind)
     (cut_high_end case row c.lower-pickup.new.ranges c.lower-dial.new.ranges Pickup ((relay_counts case c.lower-dial.new.ranges row later.fits there).primary Pickup) c.lower-dial.ensures.cut c.lower-pickup.ensures.settled)
     c.lower-dial.ensures.settled
+
+pub returns-then-not-asks-clause-cut : goal.returns-then-not-asks-clause-cut
+returns-then-not-asks-clause-cut c = uncut c.args.inst.now c.args.at.row c.args.ranges.now
+
+pub returns-then-not-asks-clause-settled : goal.returns-then-not-asks-clause-settled
+returns-then-not-asks-clause-settled c =
+    let case = c.args.inst.now in
+    let row = c.args.at.row in
+    let there = listed case c.args.at.number row c.requires.place in
+    λ kind. elim (asks_primary case row there) [
+      | inl asks ↦ let absurdly = rw c.if-not-asks.true at (c.asks.ensures.1 asks) in cc
+      | inr other ↦ high_meets case c.args.ranges.now row c.requires.filled there other.0 other.1 kind c.requires.meetable
+    ]

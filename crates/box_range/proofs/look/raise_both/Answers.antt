@@ -1,8 +1,10 @@
+use Rattle.std.proofs.Common.{inl, inr}
 use Rattle.box_range.specs.Settled.{MeetsAtLow}
 use Rattle.box_range.specs.declared.kind.Kind.{Kind}
 use Rattle.box_range.specs.declared.kind.Kind.TheVariants.{Pickup}
-use Rattle.box_range.proofs.Cuts.{cut_cut, cut_filled, cut_meetable, cut_low_end, both_kinds}
-use Rattle.box_range.proofs.Places.{listed, relay_counts}
+use Rattle.box_range.proofs.Cuts.{cut_cut, cut_filled, cut_meetable, cut_low_end, both_kinds, uncut}
+use Rattle.box_range.proofs.Meets.{low_meets}
+use Rattle.box_range.proofs.Places.{asks_backup, listed, relay_counts}
 use Rattle.box_range.proofs.look.raise_both.Goals as goal
 
 pub raise-dial-requires-clause-filled : goal.raise-dial-requires-clause-filled
@@ -40,3 +42,16 @@ returns-else-pickup-clause-settled c =
     both_kinds (λ (kind : Kind). MeetsAtLow case c.raise-dial.new.ranges row kind)
     (cut_low_end case row c.raise-pickup.new.ranges c.raise-dial.new.ranges Pickup ((relay_counts case c.raise-dial.new.ranges row later.fits there).backup Pickup) c.raise-dial.ensures.cut c.raise-pickup.ensures.settled)
     c.raise-dial.ensures.settled
+
+pub returns-then-not-asks-clause-cut : goal.returns-then-not-asks-clause-cut
+returns-then-not-asks-clause-cut c = uncut c.args.inst.now c.args.at.row c.args.ranges.now
+
+pub returns-then-not-asks-clause-settled : goal.returns-then-not-asks-clause-settled
+returns-then-not-asks-clause-settled c =
+    let case = c.args.inst.now in
+    let row = c.args.at.row in
+    let there = listed case c.args.at.number row c.requires.place in
+    λ kind. elim (asks_backup case row there) [
+      | inl asks ↦ let absurdly = rw c.if-not-asks.true at (c.asks.ensures.1 asks) in cc
+      | inr other ↦ low_meets case c.args.ranges.now row c.requires.filled there other.0 other.1 kind c.requires.meetable
+    ]

@@ -35,9 +35,9 @@ loop-number-preserved c =
 pub returns-then-moved-clause-made : goal.returns-then-moved-clause-made
 returns-then-moved-clause-made c =
     round_moved c.args.inst.now c.args.ranges.now c.loop-number.ranges c.args.due.now c.args.next.now c.loop-number.next c.loop-number.number
-    (rw c.if-moved.true at c.loop-number.invariant) (rw c.rows.ensures.value at c.loop-number-test.false)
+    (rw c.if-moved.true at c.loop-number.invariant) (rw c.requires.rows at c.loop-number-test.false)
 
 pub returns-else-moved-clause-made : goal.returns-else-moved-clause-made
 returns-else-moved-clause-made c =
     round_kept c.args.inst.now c.args.ranges.now c.loop-number.ranges c.args.due.now c.args.next.now c.loop-number.next c.loop-number.number
-    (rw c.if-moved.false at c.loop-number.invariant) (rw c.rows.ensures.value at c.loop-number-test.false) c.requires.none
+    (rw c.if-moved.false at c.loop-number.invariant) (rw c.requires.rows at c.loop-number-test.false) c.requires.none

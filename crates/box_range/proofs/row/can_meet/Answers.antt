@@ -22,6 +22,6 @@ returns c =
     let there = listed case c.args.at.number c.args.at.row c.requires.place in
     let steps = rw c.best.ensures at c.with_step.ensures in
     let exact = rw steps at c.meets.ensures in (
-      λ yes. with_can case c.args.ranges.now c.args.at.row c.requires.filled there c.args.part c.args.kind c.args.step c.requires.step (exact.0 yes),
+      λ yes. with_can case c.args.ranges.now c.args.at.row c.requires.filled there c.args.part c.args.kind c.args.step c.requires.asks c.requires.step (exact.0 yes),
       λ m. exact.1 (can_with case c.args.ranges.now c.args.at.row c.requires.filled there c.args.part c.args.kind c.args.step m),
     )

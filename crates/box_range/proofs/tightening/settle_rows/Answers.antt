@@ -9,8 +9,8 @@ use Rattle.box_range.proofs.tightening.settle_rows.Goals as goal
 pub rounds-init : goal.rounds-init
 rounds-init c = record {
   drops = none;
-  filled = c.requires;
-  rest = λ row there. all_due c.args.inst.now c.args.ranges.now row c.requires.limits there;
+  filled = c.requires.filled;
+  rest = λ row there. all_due c.args.inst.now c.args.ranges.now row c.requires.filled.limits there;
 }
 
 pub round-requires-clause-none : goal.round-requires-clause-none

@@ -1,5 +1,8 @@
-//! The studies that the tests use, and their currents.
-ghost use Rattle.std.specs.Prelude.{◌≡◌, ◌<◌, ◌≤◌, ◌*◌, All, IfOk, length};
+//! Studies that are worked out by hand, for the tests of the crates that work on boxes: curve B takes 13.5/(M - 1)
+//! seconds at the multiple of pickup M and dial 1. No program uses them.
+#![tactic(auto)]
+
+ghost use Rattle.std.specs.Prelude.{◌≡◌, ◌<◌, ◌≤◌, All, IfOk, length};
 ghost use Rattle.coord_model.specs.Limits.{FitsStudy};
 ghost use Rattle.coord_model.specs.PartLimits.{IsBetween};
 ghost use Rattle.coord_model.specs.StudyData.{study_data, entries_of};
@@ -27,6 +30,8 @@ fn relay(line: u16, bus: u16, plug_count: u32, dial: u32, dial_count: u32, load_
       dial_step = dial;
       dial_count = dial_count;
       load_amps = load_amps;
+      least_ms = 0;
+      most_ms = 0;
     } }
 {
     Relay {
@@ -43,6 +48,8 @@ fn relay(line: u16, bus: u16, plug_count: u32, dial: u32, dial_count: u32, load_
         dial_step: dial,
         dial_count,
         load_amps,
+        least_ms: 0,
+        most_ms: 0,
     }
 }
 
@@ -58,23 +65,42 @@ fn fault(line: u16) -> Fault
     }
 }
 
+/// The least and the greatest operating time of a relay in milliseconds; 0 stands for no limit.
+#[derive(Clone, Copy)]
+pub struct Limits {
+    pub least_ms: u32,
+    pub most_ms: u32,
+}
+
 /// Two lines in a row with a relay at the front of each, and a fault on each. Dials are by 0.050, of the second relay up
-/// to 1.000.
-pub fn two_lines(alloc: Global, dial_count: u32, load_amps: u32) -> Result<Instance, BuildFault>
+/// to 1.000, and that one has the limits.
+pub fn two_lines(
+    alloc: Global,
+    dial_count: u32,
+    load_amps: u32,
+    limits: Limits,
+) -> Result<Instance, BuildFault>
     requires dials { IsBetween 1 dial_count 20 }
     requires load { load_amps ≤ 1000 }
+    requires limits { (limits.least_ms ≤ 1000) × (limits.most_ms ≤ 1000) }
     ensures { IfOk result (λ inst. length inst.study.relays ≡ 2) }
 {
     build(
         alloc,
-        two_lines_study(alloc, dial_count, load_amps)?,
+        two_lines_study(alloc, dial_count, load_amps, limits)?,
         two_lines_currents(alloc)?,
     )
 }
 
-fn two_lines_study(alloc: Global, dial_count: u32, load_amps: u32) -> Result<Study, NoMemory>
+fn two_lines_study(
+    alloc: Global,
+    dial_count: u32,
+    load_amps: u32,
+    limits: Limits,
+) -> Result<Study, NoMemory>
     requires dials { IsBetween 1 dial_count 20 }
     requires load { load_amps ≤ 1000 }
+    requires limits { (limits.least_ms ≤ 1000) × (limits.most_ms ≤ 1000) }
     ensures fits { IfOk result (λ study. FitsStudy (study_data study)) }
     ensures faults { IfOk result (λ study. length study.faults.items ≡ 2) }
     ensures relays { IfOk result (λ study. length study.relays.items ≡ 2) }
@@ -93,9 +119,14 @@ fn two_lines_study(alloc: Global, dial_count: u32, load_amps: u32) -> Result<Stu
     ];
     let relays = [
         relay(0, 0, 1, 50, dial_count, load_amps),
-        relay(1, 1, 1, 50, 20, 0),
+        Relay {
+            least_ms: limits.least_ms,
+            most_ms: limits.most_ms,
+            ..relay(1, 1, 1, 50, 20, 0)
+        },
     ];
     Ok(Study {
+        format: 2,
         cti_ms: 300,
         sense: 110,
         cap: 20,
@@ -105,6 +136,7 @@ fn two_lines_study(alloc: Global, dial_count: u32, load_amps: u32) -> Result<Stu
         relays: Vec::from_slice(alloc, &relays)?,
         faults: Vec::from_slice(alloc, &[fault(1), fault(0)])?,
         exempt: Vec::new(alloc),
+        intervals: Vec::new(alloc),
     })
 }
 
@@ -163,6 +195,7 @@ fn parallel_lines_study(alloc: Global, dial_count: u32) -> Result<Study, NoMemor
         relay(1, 1, 2, 2, dial_count, 0),
     ];
     Ok(Study {
+        format: 2,
         cti_ms: 324,
         sense: 110,
         cap: 20,
@@ -172,6 +205,7 @@ fn parallel_lines_study(alloc: Global, dial_count: u32) -> Result<Study, NoMemor
         relays: Vec::from_slice(alloc, &relays)?,
         faults: Vec::from_slice(alloc, &[fault(0), fault(1)])?,
         exempt: Vec::new(alloc),
+        intervals: Vec::new(alloc),
     })
 }
 

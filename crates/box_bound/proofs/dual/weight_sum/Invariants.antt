@@ -1,9 +1,0 @@
-use Rattle.std.proofs.Common.{◌≡◌, ◌≤◌, ◌*◌, ◌^◌, take}
-use Rattle.std.specs.List.{sum_by}
-use Rattle.box_bound.proofs.dual.weight_sum.Given as goal
-
-abbrev pub invariant-loop-weight : goal.invariant-loop-weight
-invariant-loop-weight l = record {
-  sum : l.sum ≡ sum_by (λ w. w.weight) (take l.weight-index l.weights);
-  few : l.sum ≤ l.weight-index * 2 ^ 32;
-}
