@@ -1,11 +1,12 @@
 pub mod EndLaws
 pub mod EndingLaws
+pub mod HeadlineLaws
 pub mod MarginsLaws
+pub mod MovingLaws
 pub mod NameRules
 pub mod NameWalk
 pub mod NamesRead
 pub mod ReadingLaws
-pub mod ReportLaws
 pub mod RowLaws
 pub mod SettingsLaws
 pub mod StepLaws

@@ -4,9 +4,10 @@ use Rattle.box_range.specs.Drops.{Drops, IsTight}
 use Rattle.coord_model.specs.Allowed.{IsAllowed}
 use Rattle.coord_model.specs.Choice.{Settings}
 use Rattle.coord_model.specs.Cost.{CostsAtLeast}
-use Rattle.margin_rows.specs.Box.{AreLowest, Box, IsFirstBox}
+use Rattle.margin_rows.specs.Box.{Box, IsFirstBox}
 use Rattle.margin_rows.specs.Case.{Case}
 use Rattle.margin_rows.specs.Gap.{IsLeastGap}
+use Rattle.margin_rows.specs.Lowest.{lowest_of}
 use Rattle.margin_rows.specs.Price.{lower_cost_of}
 
 -- the gap up to which a cost may lie above the bound: the greater of 1,000 and the study's least gap
@@ -20,7 +21,7 @@ pub record AreLowestTight (case : Case) (settings : Settings) : Type 0 where
   pub is_first : IsFirstBox case first
   pub drops : Drops case first box
   pub tight : IsTight case box
-  pub lowest : AreLowest box settings
+  pub lowest : settings ≡ lowest_of box
 
 -- every allowed choice costs at least the bound
 abbrev pub IsBelowAll : Case → ℕ → Type 0

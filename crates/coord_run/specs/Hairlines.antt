@@ -1,31 +1,32 @@
--- What a hairline asserts (ours): at a row the enclosures do not decide whether the backup waits long enough.
-use Rattle.std.specs.Prelude.{◌≡◌, ℕ, ◌+◌, ◌<◌, Option, Some, None, length, All}
+-- What a hairline asserts (ours): the enclosures do not decide whether a row is kept.
+use Rattle.std.specs.Prelude.{◌≡◌, ℕ, pos, ◌+◌, ◌+ℤ◌, ◌<◌, ◌≤ℤ◌, Option, Some, None, All}
 use Rattle.coord_model.specs.Choice.{Settings}
+use Rattle.coord_model.specs.declared.study.Row.{Row}
 use Rattle.coord_run.specs.Bounds.{IsGap, AreLowestTight, IsBelowAll}
 use Rattle.coord_run.specs.Issuing.{IsIssued}
 use Rattle.coord_run.specs.Outcome.{HairData, IssuedData}
-use Rattle.margin_rows.specs.Case.{AtRow, Case, rows_in}
+use Rattle.margin_rows.specs.Case.{Case, row_at, rows_in}
 use Rattle.margin_rows.specs.FirstBox.{IsInFirstBox}
-use Rattle.margin_rows.specs.Margin.{MeetsLoosely, MeetsStrictly}
+use Rattle.margin_rows.specs.Margin.{MeetsLoosely, MeetsStrictly, loose_margin, row_width, strict_margin}
+use Rattle.margin_rows.specs.Unmet.{IsFirstUnmet}
 use Rattle.margin_rows.specs.Price.{lower_cost_of}
 
--- the row is the first that the settings do not strictly meet
-pub record IsFirstUnmet (case : Case) (settings : Settings) (row : ℕ) : Type 0 where
-  pub is_row : row < length (rows_in case)
-  pub unmet : AtRow case row (λ r. ¬ MeetsStrictly case settings r)
-  pub before : (earlier : ℕ) → earlier < row → AtRow case earlier (MeetsStrictly case settings)
+-- the loose margin of a row lies above the strict one by at most the widths of the times that count, at their dials
+abbrev pub AreNear : Case → Settings → Row → Type 0
+AreNear case settings row = loose_margin case settings row ≤ℤ (strict_margin case settings row +ℤ pos (row_width case settings row))
 
 -- The lowest settings of the tight box loosely meet every row, and strictly those before the one that is named, but not that
--- one. The bound is what they cost at least.
+-- one: there the two margins lie at most the row's width apart. The bound is what they cost at least.
 pub record IsHair (case : Case) (hair : HairData) (bound : ℕ) : Type 0 where
   pub tight : AreLowestTight case hair.settings
   pub first_box : IsInFirstBox case hair.settings
   pub loosely : All (MeetsLoosely case hair.settings) (rows_in case)
   pub first_unmet : IsFirstUnmet case hair.settings hair.row
+  pub near : AreNear case hair.settings (row_at case hair.row)
   pub bound_is : bound ≡ lower_cost_of case hair.settings
   pub below_all : IsBelowAll case bound
 
--- what is issued, beside a hairline; where nothing is, no choice of the first box strictly meets every row
+-- what is issued, beside a hairline; if nothing is, no choice of the first box strictly meets every row
 abbrev pub IsBeside : Case → Option IssuedData → Type 0
 IsBeside case None = (other : Settings) → IsInFirstBox case other → ¬ (All (MeetsStrictly case other) (rows_in case))
 IsBeside case (Some issued) = IsIssued case issued

@@ -1,10 +1,12 @@
--- The two files that a coordination is worked out from (ours).
+-- The two files that a coordination is worked out from, and the case that they make (ours).
 use Rattle.std.specs.Prelude.{◌≡◌, ℕ, ◌≤◌, Some, Ok, Err, List, length}
 use Rattle.coord_io.specs.Files.{Files, held}
+use Rattle.coord_io.specs.Outside.{FolderState, Told}
 use Rattle.coord_model.specs.StudyData.{StudyData}
 use Rattle.coord_model.specs.declared.study.Current.{Current}
 use Rattle.fault_table.specs.Table.{currents_of}
 use Rattle.fault_table.specs.declared.fault.TableFault.{TableFault}
+use Rattle.margin_rows.specs.Case.{Case, rows_in}
 use Rattle.network_file.specs.Network.{network_of}
 use Rattle.network_file.specs.declared.fault.NetFault.{NetFault}
 
@@ -36,3 +38,12 @@ HasTableFault m name study fault = Holds m name (λ bytes. currents_of study byt
 pub record AreInputs (m : Files) (network currents : List ℕ) (study : StudyData) (entries : List Current) : Type 0 where
   pub network_file : IsNetwork m network study
   pub table : IsTable m currents study entries
+
+-- the two files are those of a case of which the fact holds
+abbrev pub ReadsAs : FolderState → FolderState → List ℕ → List ℕ → (Case → Type 0) → Type 0
+ReadsAs before after network currents P =
+    (case : Case) × Told before after (λ m. AreInputs m network currents case.study case.currents) × P case
+
+-- they are those of a case with at most 4,096 rows of which the fact holds
+abbrev pub ReadsCase : FolderState → FolderState → List ℕ → List ℕ → (Case → Type 0) → Type 0
+ReadsCase before after network currents P = ReadsAs before after network currents (λ case. (length (rows_in case) ≤ 4096) × P case)

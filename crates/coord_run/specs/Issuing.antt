@@ -15,7 +15,7 @@ pub record IsIssued (case : Case) (issued : IssuedData) : Type 0 where
   pub cost_is : issued.cost ≡ cost_of case issued.settings
   pub at_most : CostsAtMost case.study case.currents issued.settings issued.cost
 
--- what is issued of these pickups: there is nothing exactly where no settings with them strictly meet every row
+-- what is issued of these pickups: there is nothing exactly if no settings with them strictly meet every row
 abbrev pub IsIssuedOf : Case → List ℕ → Option IssuedData → Type 0
 IsIssuedOf case pickups None = (other : Settings) → ¬ (IsStrict case pickups other)
 IsIssuedOf case pickups (Some issued) = (issued.settings.pickup ≡ pickups) × IsIssued case issued

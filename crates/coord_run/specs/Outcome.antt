@@ -20,7 +20,7 @@ pub record HairData : Type 0 where
   pub settings : Settings
   pub row : ℕ
 
--- an ending: what is issued, where a hairline stands, and the bound
+-- an ending: what is issued, the row of a hairline, and the bound
 pub data OutcomeData : Type 0 where
   closed : IssuedData → ℕ → OutcomeData
   no_settings : OutcomeData
@@ -53,9 +53,18 @@ sheet_of (closed issued bound) = sheet_with ending.Closed (Some issued) (Some bo
 sheet_of no_settings = sheet_with ending.NoSettings None None
 sheet_of (hairline issued hair bound) = sheet_with ending.Hairline issued (Some bound)
 
--- the status of an outcome
-abbrev pub outcome_status : OutcomeData → ℕ
-outcome_status (closed issued bound) = 0
-outcome_status no_settings = 3
-outcome_status (hairline (Some issued) hair bound) = 6
-outcome_status (hairline None hair bound) = 7
+-- what an outcome issues, the hairline that it names, and its bound
+abbrev pub issued_in : OutcomeData → Option IssuedData
+issued_in (closed issued bound) = Some issued
+issued_in no_settings = None
+issued_in (hairline issued hair bound) = issued
+
+abbrev pub hair_in : OutcomeData → Option HairData
+hair_in (closed issued bound) = None
+hair_in no_settings = None
+hair_in (hairline issued hair bound) = Some hair
+
+abbrev pub bound_in : OutcomeData → Option ℕ
+bound_in (closed issued bound) = Some bound
+bound_in no_settings = None
+bound_in (hairline issued hair bound) = Some bound

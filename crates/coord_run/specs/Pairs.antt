@@ -1,16 +1,16 @@
 -- What `pairs` does (ours): it reads the network file and prints which relay backs which.
-use Rattle.std.specs.Prelude.{◌≡◌, ℕ, List, ◌++◌, codes, length}
+use Rattle.std.specs.Prelude.{◌≡◌, ℕ, List, [], ◌++◌, codes, length}
 use Rattle.std.specs.Fmt.{decimal}
 use Rattle.std.specs.List.{flat_map}
 use Rattle.coord_model.specs.Pairs.{pairs_of}
 use Rattle.coord_model.specs.StudyData.{StudyData}
 use Rattle.coord_model.specs.declared.study.Pair.{Pair}
+use Rattle.coord_run.specs.Causes.{NetworkCause}
+use Rattle.coord_run.specs.End.{Ends, OutputData}
 use Rattle.coord_run.specs.Inputs.{IsNetwork}
-use Rattle.coord_run.specs.Outside.{Folder, Sink, Told}
-use Rattle.coord_run.specs.Reading.{NetworkCause}
-use Rattle.coord_run.specs.Refusal.{network_refusal_text, network_status}
-use Rattle.coord_run.specs.Report.{relay_name}
-use Rattle.coord_run.specs.Reports.{Reports}
+use Rattle.coord_io.specs.Outside.{FolderState, SinkState, Told}
+use Rattle.coord_run.specs.RowLine.{relay_name}
+use Rattle.coord_run.specs.Words.{only}
 
 -- the line of a pair
 unfoldable pub pair_text : List ℕ → List ℕ → List ℕ
@@ -28,13 +28,13 @@ count_text label n = label ++ decimal n ++ codes "\n"
 abbrev pub pairs_text : StudyData → List ℕ
 pairs_text study = pair_texts study (pairs_of study) ++ count_text (codes "pairs ") (length (pairs_of study))
 
--- the text is the report on the study of the network file of this name
-abbrev pub IsPairsReport : Folder → Folder → List ℕ → List ℕ → Type 0
-IsPairsReport before after network text =
-    (study : StudyData) × Told before after (λ m. IsNetwork m network study) × (text ≡ pairs_text study)
+-- the output is the report on the study of the network file of this name
+abbrev pub IsPairsOutput : FolderState → FolderState → List ℕ → OutputData → Type 0
+IsPairsOutput before after network output =
+    (study : StudyData) × Told before after (λ m. IsNetwork m network study)
+    × (output ≡ record { files = []; report = pairs_text study; status = 0 })
 
--- `pairs` reports so
-abbrev pub ListsPairs : List ℕ → Folder → Folder → Sink → Sink → ℕ → Type 0
+-- `pairs` ends so
+abbrev pub ListsPairs : List ℕ → FolderState → FolderState → SinkState → SinkState → ℕ → Type 0
 ListsPairs network before after sink_before sink_after status =
-    Reports (NetworkCause before after network) (IsPairsReport before after network) (network_refusal_text network) network_status
-    before after sink_before sink_after status
+    Ends (only network) (NetworkCause before after network) (IsPairsOutput before after network) before after sink_before sink_after status

@@ -1,16 +1,32 @@
--- The lines of what is at fault in a network file or a currents table (ours).
-use Rattle.std.specs.Prelude.{ℕ, Option, List, [], ◌++◌, codes}
+-- The line in which each refusal is printed (ours).
+use Rattle.std.specs.Prelude.{ℕ, Option, List, ◌++◌, codes}
 use Rattle.std.specs.Fmt.{decimal}
 use Rattle.coord_model.specs.declared.kinds.Key.{Key}
 use Rattle.coord_model.specs.declared.kinds.NetKind.{NetKind}
 use Rattle.coord_model.specs.declared.kinds.TableName.{TableName}
-use Rattle.coord_model.specs.declared.kinds.What.TheVariants as what
 use Rattle.coord_model.specs.declared.kinds.What.{What}
-use Rattle.coord_run.specs.RefusalWords.{kind_word, table_word, what_word, key_text}
-use Rattle.fault_table.specs.declared.fault.TableFault.TheVariants as fault
-use Rattle.fault_table.specs.declared.fault.TableFault.{TableFault}
-use Rattle.network_file.specs.declared.fault.NetFault.TheVariants.{NotText, NotToml, At, TooMany, NoMemory}
-use Rattle.network_file.specs.declared.fault.NetFault.{NetFault}
+use Rattle.coord_run.specs.Inputs.{most_bytes}
+use Rattle.coord_run.specs.RefusalWords.{due_word, kind_word, table_word, what_word, key_text}
+use Rattle.coord_run.specs.Words.{FileNames}
+use Rattle.coord_run.specs.declared.refusal.File.{File}
+use Rattle.coord_run.specs.declared.refusal.File.TheVariants as file
+use Rattle.coord_run.specs.declared.refusal.Refusal.{Refusal}
+use Rattle.coord_run.specs.declared.refusal.Refusal.TheVariants.{Missing, ReadFault, TooLong, NotText, NotToml, Network, TooMany, BadHeader, BadRecord, UnknownFault, UnknownRelay, BadAmps, DoubleEntry, NoPrimary, SheetLine, SheetPickup, PickupsNotBuilt}
+use Rattle.settings_sheet.specs.declared.refusal.SheetKind.{SheetKind}
+
+-- the name of a file of a command
+abbrev pub name_of : FileNames → File → List ℕ
+name_of names file.Network = names.network
+name_of names file.Currents = names.currents
+name_of names file.Sheet = names.sheet
+
+-- a line about a file or another name
+unfoldable pub name_text : List ℕ → List ℕ → List ℕ
+name_text label name = label ++ name ++ codes "\n"
+
+-- a file that is too long
+unfoldable pub too_long_text : List ℕ → List ℕ
+too_long_text name = codes "too long: " ++ name ++ codes " " ++ decimal most_bytes ++ codes "\n"
 
 -- a quantity that passes its limit
 unfoldable pub too_many_text : What → ℕ → List ℕ
@@ -21,26 +37,34 @@ unfoldable pub place_text : NetKind → TableName → ℕ → Option Key → Lis
 place_text kind in_table index key =
     codes "network: " ++ kind_word kind ++ codes " " ++ table_word in_table ++ codes " " ++ decimal index ++ key_text key ++ codes "\n"
 
--- the line of a network fault; want of memory has none
-abbrev pub network_text : NetFault → List ℕ
-network_text NotText = codes "network: not-text\n"
-network_text NotToml = codes "network: not-toml\n"
-network_text (At kind in_table index key) = place_text kind in_table index key
-network_text (TooMany of_what limit) = too_many_text of_what limit
-network_text NoMemory = []
-
 -- a fault of a record of the currents table
 unfoldable pub record_text : List ℕ → ℕ → List ℕ
 record_text kind n = codes "currents: " ++ kind ++ codes " " ++ decimal n ++ codes "\n"
 
--- the line of a fault of the currents table; a fault without primary current is told by its name instead
-abbrev pub table_text : TableFault → List ℕ
-table_text fault.BadHeader = codes "currents: bad-header\n"
-table_text (fault.BadRecord n) = record_text (codes "bad-record") n
-table_text (fault.UnknownFault n) = record_text (codes "unknown-fault") n
-table_text (fault.UnknownRelay n) = record_text (codes "unknown-relay") n
-table_text (fault.BadAmps n) = record_text (codes "bad-amps") n
-table_text (fault.DoubleEntry n) = record_text (codes "double-entry") n
-table_text (fault.TooMany limit) = too_many_text what.Currents limit
-table_text (fault.NoPrimary number) = []
-table_text fault.NoMemory = []
+-- a fault at a line of the sheet
+unfoldable pub sheet_line_text : ℕ → SheetKind → List ℕ
+sheet_line_text line kind = codes "sheet: line " ++ decimal line ++ codes " " ++ due_word kind ++ codes "\n"
+
+-- the line of a refusal of a command with these names
+abbrev pub refusal_text : FileNames → Refusal → List ℕ
+refusal_text names (Missing of_file) = name_text (codes "missing: ") (name_of names of_file)
+refusal_text names (ReadFault of_file) = name_text (codes "read fault: ") (name_of names of_file)
+refusal_text names (TooLong of_file) = too_long_text (name_of names of_file)
+refusal_text names NotText = codes "network: not-text\n"
+refusal_text names NotToml = codes "network: not-toml\n"
+refusal_text names (Network kind in_table index key) = place_text kind in_table index key
+refusal_text names (TooMany of_what limit) = too_many_text of_what limit
+refusal_text names BadHeader = codes "currents: bad-header\n"
+refusal_text names (BadRecord n) = record_text (codes "bad-record") n
+refusal_text names (UnknownFault n) = record_text (codes "unknown-fault") n
+refusal_text names (UnknownRelay n) = record_text (codes "unknown-relay") n
+refusal_text names (BadAmps n) = record_text (codes "bad-amps") n
+refusal_text names (DoubleEntry n) = record_text (codes "double-entry") n
+refusal_text names (NoPrimary name) = name_text (codes "currents: no-primary ") name
+refusal_text names (SheetLine line kind) = sheet_line_text line kind
+refusal_text names (SheetPickup name) = name_text (codes "sheet: pickup ") name
+refusal_text names PickupsNotBuilt = codes "not built: pickups\n"
+
+-- the line of a file that was not written
+abbrev pub write_fault_text : List ℕ → List ℕ
+write_fault_text name = name_text (codes "write fault: ") name

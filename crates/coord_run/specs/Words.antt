@@ -2,15 +2,15 @@
 use Rattle.std.specs.Prelude.{ℕ, Bool, ◌&&◌, ◌==◌, nat_lt, not, Option, Some, None, option_and_then, option_map, List, [], ◌∷◌, length, codes, slice_index, if◌then◌else◌}
 use Rattle.std.specs.Str.{bytes_eq}
 
--- the word is `--`: behind it every word is a name
+-- the word is `--`: after it every word is a name
 abbrev pub opens_names : List ℕ → Bool
 opens_names word = bytes_eq word (codes "--")
 
--- the word is a name: a word of two or more bytes that begins with `-` is none
+-- the word is a name: a word of two or more bytes that begins with `-` isn't one
 abbrev pub is_name : List ℕ → Bool
 is_name word = not (nat_lt 1 (length word) && (slice_index word 0 == 45))
 
--- the names that the words behind a command are, in order, if all of them are names but for the first `--`
+-- the names that the words after a command are, in order, if all of them are names but for the first `--`
 unfoldable pub names_of : List (List ℕ) → Option (List (List ℕ))
 names_of [] = Some []
 names_of (word ∷ words) =
@@ -24,12 +24,16 @@ pub record FileNames : Type 0 where
   pub currents : List ℕ
   pub sheet : List ℕ
 
--- the name, where there is one alone
+-- the names of a command that names the network alone: it asks for no other file
+abbrev pub only : List ℕ → FileNames
+only network = record { network = network; currents = network; sheet = network }
+
+-- the name, if there is one alone
 unfoldable pub one_name : List (List ℕ) → Option (List ℕ)
 one_name (network ∷ []) = Some network
 one_name names = None
 
--- the names, where there are three
+-- the names, if there are three
 unfoldable pub three_names : List (List ℕ) → Option FileNames
 three_names (network ∷ currents ∷ sheet ∷ []) = Some (record { network = network; currents = currents; sheet = sheet })
 three_names names = None
@@ -49,7 +53,7 @@ pub data Command : Type 0 where
 abbrev pub solve_of : FileNames → Option Command
 solve_of names = if all_differ names then Some (solve names) else None
 
--- the command of this word with the names behind it, if it takes so many
+-- the command of this word with the names after it, if it takes so many
 abbrev pub command_with : List ℕ → List (List ℕ) → Option Command
 command_with word names =
     if bytes_eq word (codes "solve") then option_and_then solve_of (three_names names)

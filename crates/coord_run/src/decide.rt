@@ -1,26 +1,24 @@
-//! What a coordination comes to where each relay has one pickup step in the first box.
-ghost use Rattle.std.specs.Prelude.{◌≡◌, ◌+◌, ◌^◌, ◌<◌, ◌≤◌, ℕ, length, All, IfOk, IfSome, IsNone};
+//! What a coordination comes to if each relay has one pickup step in the first box.
+ghost use Rattle.std.specs.Prelude.{◌≡◌, ◌+◌, ◌^◌, ◌<◌, ◌≤◌, ℕ, IfOk, IfSome};
 ghost use Rattle.std.specs.Option.{option_map};
 ghost use Rattle.coord_model.specs.Choice.{Settings, choice_data};
 ghost use Rattle.coord_run.specs.Bounds.{AreLowestTight, IsGap};
-ghost use Rattle.coord_run.specs.Hairlines.{IsFirstUnmet, IsUndecided};
+ghost use Rattle.coord_run.specs.Hairlines.{IsUndecided};
 ghost use Rattle.coord_run.specs.Issuing.{IsIssuedOf};
 ghost use Rattle.coord_run.specs.Ending.{IsTrueOf};
 ghost use Rattle.coord_run.specs.Outcome.{hair_data, issued_data, outcome_data, sheet_of};
 ghost use Rattle.coord_run.specs.Steps.{HasManyPickups};
-ghost use Rattle.margin_rows.specs.Case.{rows_in};
 ghost use Rattle.margin_rows.specs.FirstBox.{IsInFirstBox};
-ghost use Rattle.margin_rows.specs.Margin.{MeetsStrictly};
 ghost use Rattle.margin_rows.specs.Price.{cost_of, lower_cost_of};
 ghost use Rattle.settings_sheet.specs.SheetText.{IsSheet};
 
 use crate::outcome::{Hair, Issued, Outcome};
 use box_range::{Tightened, tighten};
 use coord_model::{Choice, NoMemory};
-use margin_rows::{Instance, Ranges, cost, least_gap, lower_cost, strict_least, strict_row};
+use margin_rows::{Instance, Ranges, cost, first_unmet, least_gap, lower_cost, strict_least};
 use std::alloc::Global;
 
-/// The least gap that is taken, in weighted microseconds, where the study's own is less.
+/// The least gap that is taken, in weighted microseconds, if the study's own is less.
 const LEAST_GAP: u64 = 1_000;
 
 /// What the coordination comes to.
@@ -36,7 +34,7 @@ pub fn decide(alloc: Global, inst: &Instance) -> Result<Outcome, NoMemory>
     }
 }
 
-/// What it comes to where these are the lowest settings of the tight box.
+/// What it comes to if these are the lowest settings of the tight box.
 fn judge(alloc: Global, inst: &Instance, lowest: Choice) -> Result<Outcome, NoMemory>
     requires one { ¬ (HasManyPickups inst.now) }
     requires tight { AreLowestTight inst.now (choice_data lowest) }
@@ -79,7 +77,7 @@ fn issue(alloc: Global, inst: &Instance, lowest: &Choice) -> Result<Option<Issue
     Ok(Some(Issued { choice, cost }))
 }
 
-/// The ending for what is issued: closed where it costs at most the gap more than the bound, else a hairline.
+/// The ending for what is issued: closed if it costs at most the gap more than the bound, else a hairline.
 fn weigh(inst: &Instance, issued: Option<Issued>, hair: Hair, bound: u64, gap: u64) -> Outcome
     requires undecided { IsUndecided inst.now (option_map issued_data issued) (hair_data hair) bound }
     requires bound { bound < 10 ^ 16 }
@@ -114,18 +112,4 @@ fn gap(inst: &Instance) -> u64
     ensures covers { (settings : Settings) → IsInFirstBox inst.now settings → cost_of inst.now settings ≤ lower_cost_of inst.now settings + result }
 {
     least_gap(inst).max(LEAST_GAP)
-}
-
-/// The first row that the choice does not strictly meet. `None`: it strictly meets every row.
-fn first_unmet(inst: &Instance, choice: &Choice) -> Option<u16>
-    requires { IsInFirstBox inst.now (choice_data choice.now) }
-    ensures unmet { IfSome result (IsFirstUnmet inst.now (choice_data choice.now)) }
-    ensures met { IsNone result → All (MeetsStrictly inst.now (choice_data choice.now)) (rows_in inst.now) }
-{
-    for row in 0..inst.rows().len() as u16 {
-        if strict_row(inst, choice, row) < 0 {
-            return Some(row);
-        }
-    }
-    None
 }

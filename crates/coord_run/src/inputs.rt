@@ -3,16 +3,15 @@ ghost use Rattle.std.specs.Prelude.{◌≡◌, ◌<◌, ◌≤◌, Some, ℕ, le
 ghost use Rattle.coord_io.specs.Files.{held};
 ghost use Rattle.coord_model.specs.Limits.{FitsCurrents, FitsStudy};
 ghost use Rattle.coord_model.specs.StudyData.{entries_of, study_data};
-ghost use Rattle.coord_run.specs.Cases.{CaseCause};
+ghost use Rattle.coord_run.specs.Causes.{CaseCause, FileCause, InputsCause, IsTableRefusal, NetworkCause, TableCause, network_refusal};
 ghost use Rattle.coord_run.specs.Inputs.{AreInputs, IsNetwork, IsTable};
-ghost use Rattle.coord_run.specs.Outside.{IsReadAlone, Told, folder_at};
-ghost use Rattle.coord_run.specs.Reading.{FileCause, InputsCause, IsNetworkRefusal, IsTableRefusal, NetworkCause, TableCause};
+ghost use Rattle.coord_io.specs.Outside.{IsReadAlone, Told};
 ghost use Rattle.coord_run.specs.Stops.{StopsFor};
 ghost use Rattle.margin_rows.specs.Case.{FitsCase};
 
-use crate::refusal::{CaseRefusal, FileFault, InputsRefusal, NetworkRefusal, Stop, TableRefusal};
+use crate::refusal::{File, Refusal, Stop};
 use coord_io::{Folder, ReadRefusal, read_whole};
-use coord_model::{Currents, Study};
+use coord_model::{Currents, Study, What};
 use fault_table::{TableFault, read_currents};
 use margin_rows::{BuildFault, Instance, build};
 use network_file::{NetFault, read_network};
@@ -27,20 +26,22 @@ pub fn read_case<F: Folder>(
     folder: &mut F,
     network: &str,
     currents: &str,
-) -> Result<Instance, Stop<CaseRefusal>>
-    ensures read { IfOk result (λ inst. Told (folder_at F.files F.read_faults F.write_faults folder.old)
-        (folder_at F.files F.read_faults F.write_faults folder.new)
+) -> Result<Instance, Stop>
+    ensures read { IfOk result (λ inst. Told (F.state folder.old) (F.state folder.new)
         (λ m. AreInputs m network.now currents.now inst.study inst.currents)) }
     ensures fits { IfOk result FitsCase }
-    ensures stopped { IfErr result (λ stop. StopsFor stop (CaseCause (folder_at F.files F.read_faults F.write_faults folder.old)
-        (folder_at F.files F.read_faults F.write_faults folder.new) network.now currents.now)) }
-    ensures alone { IsReadAlone (folder_at F.files F.read_faults F.write_faults folder.old)
-        (folder_at F.files F.read_faults F.write_faults folder.new) }
+    ensures stopped { IfErr result (λ stop. StopsFor stop (CaseCause (F.state folder.old) (F.state folder.new) network.now currents.now)) }
+    ensures alone { IsReadAlone (F.state folder.old) (F.state folder.new) }
 {
     let (study, currents) = read_inputs(alloc, folder, network, currents)?;
     match build(alloc, study, currents) {
         Ok(inst) => Ok(inst),
-        Err(BuildFault::TooManyRows { .. }) => Err(Stop::Refused(CaseRefusal::TooManyRows)),
+        Err(BuildFault::TooManyRows { .. }) => {
+            Err(Stop::Refused(Refusal::TooMany {
+                what: What::Rows,
+                limit: 4_096,
+            }))
+        },
         Err(BuildFault::NoMemory) => Err(Stop::NoMemory),
     }
 }
@@ -51,15 +52,12 @@ fn read_inputs<F: Folder>(
     folder: &mut F,
     network: &str,
     currents: &str,
-) -> Result<(Study, Currents), Stop<InputsRefusal>>
-    ensures read { IfOk result (λ read. Told (folder_at F.files F.read_faults F.write_faults folder.old)
-        (folder_at F.files F.read_faults F.write_faults folder.new)
+) -> Result<(Study, Currents), Stop>
+    ensures read { IfOk result (λ read. Told (F.state folder.old) (F.state folder.new)
         (λ m. AreInputs m network.now currents.now (study_data read.0) (entries_of read.1))) }
     ensures fits { IfOk result (λ read. FitsStudy (study_data read.0) × FitsCurrents (study_data read.0) (entries_of read.1)) }
-    ensures stopped { IfErr result (λ stop. StopsFor stop (InputsCause (folder_at F.files F.read_faults F.write_faults folder.old)
-        (folder_at F.files F.read_faults F.write_faults folder.new) network.now currents.now)) }
-    ensures alone { IsReadAlone (folder_at F.files F.read_faults F.write_faults folder.old)
-        (folder_at F.files F.read_faults F.write_faults folder.new) }
+    ensures stopped { IfErr result (λ stop. StopsFor stop (InputsCause (F.state folder.old) (F.state folder.new) network.now currents.now)) }
+    ensures alone { IsReadAlone (F.state folder.old) (F.state folder.new) }
 {
     let study = read_study(alloc, folder, network)?;
     let currents = read_table(alloc, folder, currents, &study)?;
@@ -67,20 +65,13 @@ fn read_inputs<F: Folder>(
 }
 
 /// The study of the network file.
-pub fn read_study<F: Folder>(
-    alloc: Global,
-    folder: &mut F,
-    name: &str,
-) -> Result<Study, Stop<NetworkRefusal>>
-    ensures read { IfOk result (λ study. Told (folder_at F.files F.read_faults F.write_faults folder.old)
-        (folder_at F.files F.read_faults F.write_faults folder.new) (λ m. IsNetwork m name.now (study_data study))) }
+pub fn read_study<F: Folder>(alloc: Global, folder: &mut F, name: &str) -> Result<Study, Stop>
+    ensures read { IfOk result (λ study. Told (F.state folder.old) (F.state folder.new) (λ m. IsNetwork m name.now (study_data study))) }
     ensures fits { IfOk result (λ study. FitsStudy (study_data study)) }
-    ensures stopped { IfErr result (λ stop. StopsFor stop (NetworkCause (folder_at F.files F.read_faults F.write_faults folder.old)
-        (folder_at F.files F.read_faults F.write_faults folder.new) name.now)) }
-    ensures alone { IsReadAlone (folder_at F.files F.read_faults F.write_faults folder.old)
-        (folder_at F.files F.read_faults F.write_faults folder.new) }
+    ensures stopped { IfErr result (λ stop. StopsFor stop (NetworkCause (F.state folder.old) (F.state folder.new) name.now)) }
+    ensures alone { IsReadAlone (F.state folder.old) (F.state folder.new) }
 {
-    let bytes = read_file(alloc, folder, name)?;
+    let bytes = read_file(alloc, folder, name, File::Network)?;
     match read_network(alloc, bytes.as_slice()) {
         Ok(study) => Ok(study),
         Err(fault) => Err(network_stop(fault)),
@@ -88,12 +79,25 @@ pub fn read_study<F: Folder>(
 }
 
 /// Why a fault of the network file stops the work.
-fn network_stop(fault: NetFault) -> Stop<NetworkRefusal>
-    ensures { StopsFor result (IsNetworkRefusal fault) }
+fn network_stop(fault: NetFault) -> Stop
+    ensures { StopsFor result (λ refusal. network_refusal fault ≡ Some refusal) }
 {
     match fault {
+        NetFault::NotText => Stop::Refused(Refusal::NotText),
+        NetFault::NotToml => Stop::Refused(Refusal::NotToml),
+        NetFault::At {
+            kind,
+            table,
+            index,
+            key,
+        } => Stop::Refused(Refusal::Network {
+            kind,
+            table,
+            index,
+            key,
+        }),
+        NetFault::TooMany { what, limit } => Stop::Refused(Refusal::TooMany { what, limit }),
         NetFault::NoMemory => Stop::NoMemory,
-        _ => Stop::Refused(NetworkRefusal::Faulty(fault)),
     }
 }
 
@@ -103,18 +107,15 @@ fn read_table<F: Folder>(
     folder: &mut F,
     name: &str,
     study: &Study,
-) -> Result<Currents, Stop<TableRefusal>>
+) -> Result<Currents, Stop>
     requires { FitsStudy (study_data study.now) }
-    ensures read { IfOk result (λ currents. Told (folder_at F.files F.read_faults F.write_faults folder.old)
-        (folder_at F.files F.read_faults F.write_faults folder.new)
+    ensures read { IfOk result (λ currents. Told (F.state folder.old) (F.state folder.new)
         (λ m. IsTable m name.now (study_data study.now) (entries_of currents))) }
     ensures fits { IfOk result (λ currents. FitsCurrents (study_data study.now) (entries_of currents)) }
-    ensures stopped { IfErr result (λ stop. StopsFor stop (TableCause (folder_at F.files F.read_faults F.write_faults folder.old)
-        (folder_at F.files F.read_faults F.write_faults folder.new) name.now (study_data study.now))) }
-    ensures alone { IsReadAlone (folder_at F.files F.read_faults F.write_faults folder.old)
-        (folder_at F.files F.read_faults F.write_faults folder.new) }
+    ensures stopped { IfErr result (λ stop. StopsFor stop (TableCause (F.state folder.old) (F.state folder.new) name.now (study_data study.now))) }
+    ensures alone { IsReadAlone (F.state folder.old) (F.state folder.new) }
 {
-    let bytes = read_file(alloc, folder, name)?;
+    let bytes = read_file(alloc, folder, name, File::Currents)?;
     match read_currents(alloc, study, bytes.as_slice()) {
         Ok(currents) => Ok(currents),
         Err(fault) => Err(table_stop(study, fault)),
@@ -122,17 +123,26 @@ fn read_table<F: Folder>(
 }
 
 /// Why a fault of the currents table stops the work.
-fn table_stop(study: &Study, fault: TableFault) -> Stop<TableRefusal>
+fn table_stop(study: &Study, fault: TableFault) -> Stop
     requires { (number : ℕ) → fault ≡ TableFault.NoPrimary number → number < length (study_data study.now).faults }
     ensures { StopsFor result (IsTableRefusal (study_data study.now) fault) }
 {
     match fault {
-        TableFault::NoMemory => Stop::NoMemory,
+        TableFault::BadHeader => Stop::Refused(Refusal::BadHeader),
+        TableFault::BadRecord { n } => Stop::Refused(Refusal::BadRecord { n }),
+        TableFault::UnknownFault { n } => Stop::Refused(Refusal::UnknownFault { n }),
+        TableFault::UnknownRelay { n } => Stop::Refused(Refusal::UnknownRelay { n }),
+        TableFault::BadAmps { n } => Stop::Refused(Refusal::BadAmps { n }),
+        TableFault::DoubleEntry { n } => Stop::Refused(Refusal::DoubleEntry { n }),
+        TableFault::TooMany { limit } => Stop::Refused(Refusal::TooMany {
+            what: What::Currents,
+            limit,
+        }),
         TableFault::NoPrimary { fault } => {
             let fault = &study.faults[usize::from(fault)];
-            Stop::Refused(TableRefusal::NoPrimary(fault.name))
+            Stop::Refused(Refusal::NoPrimary(fault.name))
         }
-        _ => Stop::Refused(TableRefusal::Faulty(fault)),
+        TableFault::NoMemory => Stop::NoMemory,
     }
 }
 
@@ -141,20 +151,18 @@ pub fn read_file<F: Folder>(
     alloc: Global,
     folder: &mut F,
     name: &str,
-) -> Result<Vec<u8>, Stop<FileFault>>
+    file: File,
+) -> Result<Vec<u8>, Stop>
     ensures within { IfOk result (λ bytes. length bytes.items ≤ MOST_BYTES) }
-    ensures read { IfOk result (λ bytes. Told (folder_at F.files F.read_faults F.write_faults folder.old)
-        (folder_at F.files F.read_faults F.write_faults folder.new) (λ m. held m name.now ≡ Some bytes.items)) }
-    ensures stopped { IfErr result (λ stop. StopsFor stop (FileCause (folder_at F.files F.read_faults F.write_faults folder.old)
-        (folder_at F.files F.read_faults F.write_faults folder.new) name.now)) }
-    ensures alone { IsReadAlone (folder_at F.files F.read_faults F.write_faults folder.old)
-        (folder_at F.files F.read_faults F.write_faults folder.new) }
+    ensures read { IfOk result (λ bytes. Told (F.state folder.old) (F.state folder.new) (λ m. held m name.now ≡ Some bytes.items)) }
+    ensures stopped { IfErr result (λ stop. StopsFor stop (FileCause (F.state folder.old) (F.state folder.new) name.now file)) }
+    ensures alone { IsReadAlone (F.state folder.old) (F.state folder.new) }
 {
     match read_whole(alloc, folder, name, MOST_BYTES) {
         Ok(bytes) => Ok(bytes),
-        Err(ReadRefusal::Missing) => Err(Stop::Refused(FileFault::Missing)),
-        Err(ReadRefusal::Failed) => Err(Stop::Refused(FileFault::Failed)),
-        Err(ReadRefusal::TooLong { .. }) => Err(Stop::Refused(FileFault::TooLong)),
+        Err(ReadRefusal::Missing) => Err(Stop::Refused(Refusal::Missing(file))),
+        Err(ReadRefusal::Failed) => Err(Stop::Refused(Refusal::ReadFault(file))),
+        Err(ReadRefusal::TooLong { .. }) => Err(Stop::Refused(Refusal::TooLong(file))),
         Err(ReadRefusal::NoMemory) => Err(Stop::NoMemory),
     }
 }

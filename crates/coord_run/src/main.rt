@@ -6,41 +6,49 @@
 #![tactic(auto)]
 
 mod decide;
-mod fault_line;
+mod end;
 mod inputs;
 mod margins;
-mod margins_line;
 mod outcome;
 mod pairs;
 mod printing;
+mod program;
 mod refusal;
 mod refusal_line;
+mod refusal_words;
 mod report;
+mod row_line;
 mod settings;
-mod settle;
 mod solve;
+mod status;
+mod steps;
 #[cfg(test)]
 mod tests;
-mod top;
 mod words;
 
 use coord_io::{DiskFolder, StdSink};
-use printing::NO_MEMORY;
+use program::{print_usage, run};
+use status::NO_MEMORY;
 use std::env;
+use std::io::ErrorKind;
 use std::process::ExitCode;
-use top::run;
 
 fn main(rt: HostRuntime) -> ExitCode {
-    let mut words = Vec::new(rt.alloc());
-    let Ok(args) = env::args(&rt) else {
-        return ExitCode::from(NO_MEMORY);
+    let mut out = StdSink::new(&rt);
+    let args = match env::args(&rt) {
+        Ok(args) => args,
+        // a word is not UTF-8
+        Err(error) if error.kind() == ErrorKind::InvalidData => {
+            return ExitCode::from(print_usage(&mut out));
+        }
+        Err(_) => return ExitCode::from(NO_MEMORY),
     };
+    let mut words = Vec::new(rt.alloc());
     for word in args.skip(1) {
         if words.push(word).is_err() {
             return ExitCode::from(NO_MEMORY);
         }
     }
     let mut folder = DiskFolder::new(&rt);
-    let mut out = StdSink::new(&rt);
     ExitCode::from(run(rt.alloc(), words.as_slice(), &mut folder, &mut out))
 }

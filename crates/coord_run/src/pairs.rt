@@ -2,16 +2,19 @@
 ghost use Rattle.std.specs.Prelude.{◌≡◌, ◌++◌, length, IfOk, IfErr, OnOk};
 ghost use Rattle.coord_model.specs.Limits.{FitsStudy};
 ghost use Rattle.coord_model.specs.StudyData.{study_data};
-ghost use Rattle.coord_run.specs.Outside.{IsReadAlone, folder_at, sink_at};
-ghost use Rattle.coord_run.specs.Pairs.{IsPairsReport, ListsPairs, count_text, pair_text, pair_texts, pairs_text};
-ghost use Rattle.coord_run.specs.Reading.{NetworkCause};
+ghost use Rattle.coord_io.specs.Outside.{IsReadAlone};
+ghost use Rattle.coord_run.specs.Causes.{NetworkCause};
+ghost use Rattle.coord_run.specs.Handing.{HasFaultLine, output_data};
+ghost use Rattle.coord_run.specs.Names.{names_data};
+ghost use Rattle.coord_run.specs.Pairs.{IsPairsOutput, ListsPairs, count_text, pair_text, pair_texts, pairs_text};
 ghost use Rattle.coord_run.specs.Stops.{StopsFor};
+ghost use Rattle.coord_run.specs.Words.{only};
 
+use crate::end::{Output, hand_over};
 use crate::inputs::read_study;
-use crate::printing::{NO_MEMORY, print, refuse};
-use crate::refusal::{NetworkRefusal, Stop};
-use crate::refusal_line::{network_refusal_line, network_status};
-use crate::report::relay_name;
+use crate::refusal::Stop;
+use crate::row_line::relay_name;
+use crate::words::Names;
 use coord_io::{Folder, Sink};
 use coord_model::{NoMemory, Pair, Study};
 use coord_text::push_number;
@@ -20,35 +23,37 @@ use std::alloc::Global;
 
 /// Reads the network and prints its pairs, or the line of a refusal. The answer is the status.
 pub fn pairs<F: Folder, K: Sink>(alloc: Global, folder: &mut F, out: &mut K, network: &str) -> u8
-    ensures { ListsPairs network.now (folder_at F.files F.read_faults F.write_faults folder.old)
-        (folder_at F.files F.read_faults F.write_faults folder.new)
-        (sink_at K.written K.faults out.old) (sink_at K.written K.faults out.new) result }
+    ensures { ListsPairs network.now (F.state folder.old) (F.state folder.new) (K.state out.old) (K.state out.new) result }
 {
-    match report(alloc, folder, network) {
-        Ok(text) => print(out, text.as_slice(), 0),
-        Err(Stop::Refused(refusal)) => {
-            let line = network_refusal_line(alloc, network, refusal);
-            refuse(out, line, network_status(refusal))
-        }
-        Err(Stop::NoMemory) => NO_MEMORY,
+    let work = work(alloc, folder, network);
+    hand_over(alloc, folder, out, &only(network), work)
+}
+
+/// The names of a command that names the network alone.
+fn only<'a>(network: &'a str) -> Names<'a>
+    ensures { names_data result ≡ only network.entry.now }
+{
+    Names {
+        network,
+        currents: network,
+        sheet: network,
     }
 }
 
 /// The report on the network file.
-fn report<F: Folder>(
-    alloc: Global,
-    folder: &mut F,
-    network: &str,
-) -> Result<Vec<u8>, Stop<NetworkRefusal>>
-    ensures report { IfOk result (λ text. IsPairsReport (folder_at F.files F.read_faults F.write_faults folder.old)
-        (folder_at F.files F.read_faults F.write_faults folder.new) network.now text.items) }
-    ensures stopped { IfErr result (λ stop. StopsFor stop (NetworkCause (folder_at F.files F.read_faults F.write_faults folder.old)
-        (folder_at F.files F.read_faults F.write_faults folder.new) network.now)) }
-    ensures alone { IsReadAlone (folder_at F.files F.read_faults F.write_faults folder.old)
-        (folder_at F.files F.read_faults F.write_faults folder.new) }
+fn work<'a, F: Folder>(alloc: Global, folder: &mut F, network: &'a str) -> Result<Output<'a>, Stop>
+    ensures report { IfOk result (λ output. IsPairsOutput (F.state folder.old) (F.state folder.new) network.now (output_data output)) }
+    ensures line { IfOk result HasFaultLine }
+    ensures stopped { IfErr result (λ stop. StopsFor stop (NetworkCause (F.state folder.old) (F.state folder.new) network.now)) }
+    ensures alone { IsReadAlone (F.state folder.old) (F.state folder.new) }
 {
     let study = read_study(alloc, folder, network)?;
-    Ok(pairs_bytes(alloc, &study)?)
+    let report = pairs_bytes(alloc, &study)?;
+    Ok(Output {
+        file: None,
+        report,
+        status: 0,
+    })
 }
 
 /// The pairs of a study as text, and how many there are.

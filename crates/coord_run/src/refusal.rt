@@ -1,227 +1,89 @@
-//! Why a command ends before its work is done.
-use coord_model::{Name, NoMemory};
-use fault_table::TableFault;
-use network_file::NetFault;
+//! All that the program may refuse.
+use coord_model::{Key, Name, NetKind, NoMemory, TableName, What};
 use settings_sheet::SheetKind;
 
-/// Why the bytes of a file were not read.
+/// A file that a command names.
 #[derive(Clone, Copy)]
-pub enum FileFault {
+pub enum File {
+    Network,
+    Currents,
+    Sheet,
+}
+
+/// Why a command ends before its work is done.
+#[derive(Clone, Copy)]
+pub enum Refusal {
     /// The folder has no such file.
-    Missing,
+    Missing(File),
     /// The folder failed while the file was read.
-    Failed,
+    ReadFault(File),
     /// The file has more than 4 MiB.
-    TooLong,
-}
-
-/// Why no study was read from the network file.
-#[derive(Clone, Copy)]
-pub enum NetworkRefusal {
-    Unread(FileFault),
-    /// The first fault of the file.
-    Faulty(NetFault),
-}
-
-/// Why no currents were read from the currents table.
-#[derive(Clone, Copy)]
-pub enum TableRefusal {
-    Unread(FileFault),
-    /// The first fault of the table, unless a fault of the study has no primary current.
-    Faulty(TableFault),
+    TooLong(File),
+    /// The network file isn't UTF-8.
+    NotText,
+    /// The network file isn't TOML.
+    NotToml,
+    /// The first fault of the network file, at this place of it.
+    Network {
+        kind: NetKind,
+        table: TableName,
+        index: u16,
+        key: Option<Key>,
+    },
+    /// There are more of this than the limit.
+    TooMany {
+        what: What,
+        limit: u32,
+    },
+    /// The currents table doesn't begin with its header.
+    BadHeader,
+    /// The record of this number hasn't three fields.
+    BadRecord {
+        n: u32,
+    },
+    /// The record names no fault of the study.
+    UnknownFault {
+        n: u32,
+    },
+    /// The record names no relay of the study.
+    UnknownRelay {
+        n: u32,
+    },
+    /// The record has no current in amperes.
+    BadAmps {
+        n: u32,
+    },
+    /// The record repeats the fault and the relay of an earlier one.
+    DoubleEntry {
+        n: u32,
+    },
     /// No relay on its line has a current at the fault of this name.
     NoPrimary(Name),
-}
-
-/// Why the two files are no study with its currents.
-#[derive(Clone, Copy)]
-pub enum InputsRefusal {
-    Network(NetworkRefusal),
-    Table(TableRefusal),
-}
-
-/// Why the two files are no case within the limits.
-#[derive(Clone, Copy)]
-pub enum CaseRefusal {
-    Inputs(InputsRefusal),
-    /// There are more than 4,096 rows.
-    TooManyRows,
-}
-
-/// Why no settings of a case were read from the sheet.
-#[derive(Clone, Copy)]
-pub enum SettingsRefusal {
-    Unread(FileFault),
     /// The lines before this one begin a sheet of the study, and with it they begin none.
-    Faulty { line: u32, kind: SheetKind },
-    /// The first box does not have the pickup of the relay of this name.
-    Outside(Name),
-}
-
-/// Why `solve` comes to no ending.
-#[derive(Clone, Copy)]
-pub enum SolveRefusal {
-    Case(CaseRefusal),
+    SheetLine {
+        line: u32,
+        kind: SheetKind,
+    },
+    /// The first box doesn't have the pickup of the relay of this name.
+    SheetPickup(Name),
     /// Several pickup steps of a relay are not built yet.
     PickupsNotBuilt,
 }
 
-/// Why `margins` gives no report.
-#[derive(Clone, Copy)]
-pub enum MarginsRefusal {
-    Case(CaseRefusal),
-    Settings(SettingsRefusal),
-}
-
 /// Why a step answers nothing: it is refused, or memory ran out.
 #[derive(Clone, Copy)]
-pub enum Stop<R> {
-    Refused(R),
+pub enum Stop {
+    Refused(Refusal),
     NoMemory,
 }
 
-impl<R> From<NoMemory> for Stop<R> {
+impl From<NoMemory> for Stop {
     ghost use Rattle.std.specs.Prelude.{◌≡◌};
     ghost use Rattle.coord_run.specs.declared.refusal.Stop.TheVariants as of;
 
     ghost from_gives = { λ _ stop. stop ≡ of.NoMemory };
 
-    fn from(_refused: NoMemory) -> Stop<R> {
+    fn from(_refused: NoMemory) -> Stop {
         Stop::NoMemory
-    }
-}
-
-impl From<Stop<FileFault>> for Stop<NetworkRefusal> {
-    ghost use Rattle.std.specs.Prelude.{◌≡◌};
-    ghost use Rattle.coord_run.specs.Stops.{within};
-    ghost use Rattle.coord_run.specs.declared.refusal.NetworkRefusal.TheVariants as of;
-
-    ghost from_gives = { λ stop made. made ≡ within of.Unread stop };
-
-    fn from(stop: Stop<FileFault>) -> Stop<NetworkRefusal> {
-        match stop {
-            Stop::Refused(refusal) => Stop::Refused(NetworkRefusal::Unread(refusal)),
-            Stop::NoMemory => Stop::NoMemory,
-        }
-    }
-}
-
-impl From<Stop<FileFault>> for Stop<TableRefusal> {
-    ghost use Rattle.std.specs.Prelude.{◌≡◌};
-    ghost use Rattle.coord_run.specs.Stops.{within};
-    ghost use Rattle.coord_run.specs.declared.refusal.TableRefusal.TheVariants as of;
-
-    ghost from_gives = { λ stop made. made ≡ within of.Unread stop };
-
-    fn from(stop: Stop<FileFault>) -> Stop<TableRefusal> {
-        match stop {
-            Stop::Refused(refusal) => Stop::Refused(TableRefusal::Unread(refusal)),
-            Stop::NoMemory => Stop::NoMemory,
-        }
-    }
-}
-
-impl From<Stop<NetworkRefusal>> for Stop<InputsRefusal> {
-    ghost use Rattle.std.specs.Prelude.{◌≡◌};
-    ghost use Rattle.coord_run.specs.Stops.{within};
-    ghost use Rattle.coord_run.specs.declared.refusal.InputsRefusal.TheVariants as of;
-
-    ghost from_gives = { λ stop made. made ≡ within of.Network stop };
-
-    fn from(stop: Stop<NetworkRefusal>) -> Stop<InputsRefusal> {
-        match stop {
-            Stop::Refused(refusal) => Stop::Refused(InputsRefusal::Network(refusal)),
-            Stop::NoMemory => Stop::NoMemory,
-        }
-    }
-}
-
-impl From<Stop<TableRefusal>> for Stop<InputsRefusal> {
-    ghost use Rattle.std.specs.Prelude.{◌≡◌};
-    ghost use Rattle.coord_run.specs.Stops.{within};
-    ghost use Rattle.coord_run.specs.declared.refusal.InputsRefusal.TheVariants as of;
-
-    ghost from_gives = { λ stop made. made ≡ within of.Table stop };
-
-    fn from(stop: Stop<TableRefusal>) -> Stop<InputsRefusal> {
-        match stop {
-            Stop::Refused(refusal) => Stop::Refused(InputsRefusal::Table(refusal)),
-            Stop::NoMemory => Stop::NoMemory,
-        }
-    }
-}
-
-impl From<Stop<InputsRefusal>> for Stop<CaseRefusal> {
-    ghost use Rattle.std.specs.Prelude.{◌≡◌};
-    ghost use Rattle.coord_run.specs.Stops.{within};
-    ghost use Rattle.coord_run.specs.declared.refusal.CaseRefusal.TheVariants as of;
-
-    ghost from_gives = { λ stop made. made ≡ within of.Inputs stop };
-
-    fn from(stop: Stop<InputsRefusal>) -> Stop<CaseRefusal> {
-        match stop {
-            Stop::Refused(refusal) => Stop::Refused(CaseRefusal::Inputs(refusal)),
-            Stop::NoMemory => Stop::NoMemory,
-        }
-    }
-}
-
-impl From<Stop<FileFault>> for Stop<SettingsRefusal> {
-    ghost use Rattle.std.specs.Prelude.{◌≡◌};
-    ghost use Rattle.coord_run.specs.Stops.{within};
-    ghost use Rattle.coord_run.specs.declared.refusal.SettingsRefusal.TheVariants as of;
-
-    ghost from_gives = { λ stop made. made ≡ within of.Unread stop };
-
-    fn from(stop: Stop<FileFault>) -> Stop<SettingsRefusal> {
-        match stop {
-            Stop::Refused(refusal) => Stop::Refused(SettingsRefusal::Unread(refusal)),
-            Stop::NoMemory => Stop::NoMemory,
-        }
-    }
-}
-
-impl From<Stop<CaseRefusal>> for Stop<SolveRefusal> {
-    ghost use Rattle.std.specs.Prelude.{◌≡◌};
-    ghost use Rattle.coord_run.specs.Stops.{within};
-    ghost use Rattle.coord_run.specs.declared.refusal.SolveRefusal.TheVariants as of;
-
-    ghost from_gives = { λ stop made. made ≡ within of.Case stop };
-
-    fn from(stop: Stop<CaseRefusal>) -> Stop<SolveRefusal> {
-        match stop {
-            Stop::Refused(refusal) => Stop::Refused(SolveRefusal::Case(refusal)),
-            Stop::NoMemory => Stop::NoMemory,
-        }
-    }
-}
-
-impl From<Stop<CaseRefusal>> for Stop<MarginsRefusal> {
-    ghost use Rattle.std.specs.Prelude.{◌≡◌};
-    ghost use Rattle.coord_run.specs.Stops.{within};
-    ghost use Rattle.coord_run.specs.declared.refusal.MarginsRefusal.TheVariants as of;
-
-    ghost from_gives = { λ stop made. made ≡ within of.Case stop };
-
-    fn from(stop: Stop<CaseRefusal>) -> Stop<MarginsRefusal> {
-        match stop {
-            Stop::Refused(refusal) => Stop::Refused(MarginsRefusal::Case(refusal)),
-            Stop::NoMemory => Stop::NoMemory,
-        }
-    }
-}
-
-impl From<Stop<SettingsRefusal>> for Stop<MarginsRefusal> {
-    ghost use Rattle.std.specs.Prelude.{◌≡◌};
-    ghost use Rattle.coord_run.specs.Stops.{within};
-    ghost use Rattle.coord_run.specs.declared.refusal.MarginsRefusal.TheVariants as of;
-
-    ghost from_gives = { λ stop made. made ≡ within of.Settings stop };
-
-    fn from(stop: Stop<SettingsRefusal>) -> Stop<MarginsRefusal> {
-        match stop {
-            Stop::Refused(refusal) => Stop::Refused(MarginsRefusal::Settings(refusal)),
-            Stop::NoMemory => Stop::NoMemory,
-        }
     }
 }

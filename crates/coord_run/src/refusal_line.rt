@@ -1,164 +1,81 @@
-//! The line in which a refusal is printed, and its status.
-ghost use Rattle.std.specs.Prelude.{◌≡◌, ◌++◌, IfOk};
+//! The line in which a refusal is printed.
+ghost use Rattle.std.specs.Prelude.{◌≡◌, ◌++◌, IfOk, OnOk};
 ghost use Rattle.std.specs.Fmt.{decimal};
-ghost use Rattle.coord_run.specs.CaseRefusal.{case_status, case_text};
-ghost use Rattle.coord_run.specs.FileRefusal.{file_text, too_long_text, unread_status, unread_text};
-ghost use Rattle.coord_run.specs.Refusal.{inputs_status, inputs_text, network_fault_status, network_refusal_text, network_status, table_fault_status, table_refusal_text, table_status};
+ghost use Rattle.coord_run.specs.Names.{names_data};
+ghost use Rattle.coord_run.specs.RefusalText.{name_of, name_text, place_text, record_text, refusal_text, sheet_line_text, too_long_text, too_many_text};
+ghost use Rattle.coord_run.specs.RefusalWords.{key_text};
 
-use crate::fault_line::{network_line, table_line, too_many_line};
 use crate::inputs::MOST_BYTES;
-use crate::refusal::{CaseRefusal, FileFault, InputsRefusal, NetworkRefusal, TableRefusal};
-use coord_model::{NoMemory, What};
+use crate::refusal::{File, Refusal};
+use crate::refusal_words::{due_word, kind_word, table_word, what_word};
+use crate::words::Names;
+use coord_model::{Key, NetKind, NoMemory, TableName, What};
 use coord_text::push_number;
-use fault_table::TableFault;
-use network_file::NetFault;
+use network_file::word;
+use settings_sheet::SheetKind;
 use std::alloc::Global;
 
-/// The line of a file that was not read.
-pub fn unread_line(alloc: Global, name: &str, fault: FileFault) -> Result<Vec<u8>, NoMemory>
-    ensures { IfOk result (λ line. line.items ≡ unread_text name.now fault) }
-{
-    match fault {
-        FileFault::Missing => file_line(alloc, b"missing: ", name.as_bytes()),
-        FileFault::Failed => file_line(alloc, b"read fault: ", name.as_bytes()),
-        FileFault::TooLong => too_long_line(alloc, name.as_bytes()),
-    }
-}
-
-/// The status of a file that was not read.
-pub fn unread_status(fault: FileFault) -> u8
-    ensures { result ≡ unread_status fault }
-{
-    match fault {
-        FileFault::Missing => 9,
-        FileFault::Failed => 10,
-        FileFault::TooLong => 12,
-    }
-}
-
-/// The line of a network that was not read.
-pub fn network_refusal_line(
+/// The line of a refusal of a command with these names.
+pub fn refusal_line(
     alloc: Global,
-    name: &str,
-    refusal: NetworkRefusal,
+    names: &Names<'_>,
+    refusal: &Refusal,
 ) -> Result<Vec<u8>, NoMemory>
-    ensures { IfOk result (λ line. line.items ≡ network_refusal_text name.now refusal) }
+    ensures { IfOk result (λ line. line.items ≡ refusal_text (names_data names.now) refusal.now) }
 {
     match refusal {
-        NetworkRefusal::Unread(fault) => unread_line(alloc, name, fault),
-        NetworkRefusal::Faulty(fault) => network_line(alloc, fault),
+        Refusal::Missing(file) => file_line(alloc, b"missing: ", names, *file),
+        Refusal::ReadFault(file) => file_line(alloc, b"read fault: ", names, *file),
+        Refusal::TooLong(file) => too_long_line(alloc, names, *file),
+        Refusal::NotText => Ok(Vec::from_slice(alloc, b"network: not-text\n")?),
+        Refusal::NotToml => Ok(Vec::from_slice(alloc, b"network: not-toml\n")?),
+        Refusal::Network {
+            kind,
+            table,
+            index,
+            key,
+        } => place_line(alloc, *kind, *table, *index, *key),
+        Refusal::TooMany { what, limit } => too_many_line(alloc, *what, *limit),
+        Refusal::BadHeader => Ok(Vec::from_slice(alloc, b"currents: bad-header\n")?),
+        Refusal::BadRecord { n } => record_line(alloc, b"bad-record", *n),
+        Refusal::UnknownFault { n } => record_line(alloc, b"unknown-fault", *n),
+        Refusal::UnknownRelay { n } => record_line(alloc, b"unknown-relay", *n),
+        Refusal::BadAmps { n } => record_line(alloc, b"bad-amps", *n),
+        Refusal::DoubleEntry { n } => record_line(alloc, b"double-entry", *n),
+        Refusal::NoPrimary(name) => name_line(alloc, b"currents: no-primary ", name.bytes()),
+        Refusal::SheetLine { line, kind } => sheet_line(alloc, *line, *kind),
+        Refusal::SheetPickup(name) => name_line(alloc, b"sheet: pickup ", name.bytes()),
+        Refusal::PickupsNotBuilt => Ok(Vec::from_slice(alloc, b"not built: pickups\n")?),
     }
 }
 
-/// The status of a network that was not read.
-pub fn network_status(refusal: NetworkRefusal) -> u8
-    ensures { result ≡ network_status refusal }
+/// The name of a file of a command.
+fn name_of<'a>(names: &Names<'a>, file: File) -> &'a str
+    ensures { result.now ≡ name_of (names_data names.now) file }
 {
-    match refusal {
-        NetworkRefusal::Unread(fault) => unread_status(fault),
-        NetworkRefusal::Faulty(fault) => network_fault_status(fault),
+    match file {
+        File::Network => names.network,
+        File::Currents => names.currents,
+        File::Sheet => names.sheet,
     }
 }
 
-fn network_fault_status(fault: NetFault) -> u8
-    ensures { result ≡ network_fault_status fault }
-{
-    match fault {
-        NetFault::NotText | NetFault::NotToml | NetFault::At { .. } => 13,
-        NetFault::TooMany { .. } => 15,
-        NetFault::NoMemory => 30,
-    }
-}
-
-/// The line of a currents table that was not read.
-fn table_refusal_line(
+/// A line about a file.
+fn file_line(
     alloc: Global,
-    name: &str,
-    refusal: &TableRefusal,
+    label: &[u8],
+    names: &Names<'_>,
+    file: File,
 ) -> Result<Vec<u8>, NoMemory>
-    ensures { IfOk result (λ line. line.items ≡ table_refusal_text name.now refusal.now) }
+    ensures { IfOk result (λ line. line.items ≡ name_text label.now (name_of (names_data names.now) file)) }
 {
-    match refusal {
-        TableRefusal::Unread(fault) => unread_line(alloc, name, *fault),
-        TableRefusal::Faulty(fault) => table_line(alloc, *fault),
-        TableRefusal::NoPrimary(name) => file_line(alloc, b"currents: no-primary ", name.bytes()),
-    }
+    name_line(alloc, label, name_of(names, file).as_bytes())
 }
 
-/// The status of a currents table that was not read.
-fn table_status(refusal: &TableRefusal) -> u8
-    ensures { result ≡ table_status refusal.now }
-{
-    match refusal {
-        TableRefusal::Unread(fault) => unread_status(*fault),
-        TableRefusal::Faulty(fault) => table_fault_status(*fault),
-        TableRefusal::NoPrimary(_) => 14,
-    }
-}
-
-fn table_fault_status(fault: TableFault) -> u8
-    ensures { result ≡ table_fault_status fault }
-{
-    match fault {
-        TableFault::TooMany { .. } => 15,
-        TableFault::NoMemory => 30,
-        _ => 14,
-    }
-}
-
-/// The line of two files that make no case within the limits.
-pub fn case_line(
-    alloc: Global,
-    network: &str,
-    currents: &str,
-    refusal: &CaseRefusal,
-) -> Result<Vec<u8>, NoMemory>
-    ensures { IfOk result (λ line. line.items ≡ case_text network.now currents.now refusal.now) }
-{
-    match refusal {
-        CaseRefusal::Inputs(refusal) => inputs_line(alloc, network, currents, refusal),
-        CaseRefusal::TooManyRows => too_many_line(alloc, What::Rows, 4_096),
-    }
-}
-
-/// The status of two files that make no case within the limits.
-pub fn case_status(refusal: &CaseRefusal) -> u8
-    ensures { result ≡ case_status refusal.now }
-{
-    match refusal {
-        CaseRefusal::Inputs(refusal) => inputs_status(refusal),
-        CaseRefusal::TooManyRows => 15,
-    }
-}
-
-/// The line of two files that were not read.
-fn inputs_line(
-    alloc: Global,
-    network: &str,
-    currents: &str,
-    refusal: &InputsRefusal,
-) -> Result<Vec<u8>, NoMemory>
-    ensures { IfOk result (λ line. line.items ≡ inputs_text network.now currents.now refusal.now) }
-{
-    match refusal {
-        InputsRefusal::Network(refusal) => network_refusal_line(alloc, network, *refusal),
-        InputsRefusal::Table(refusal) => table_refusal_line(alloc, currents, refusal),
-    }
-}
-
-/// The status of two files that were not read.
-fn inputs_status(refusal: &InputsRefusal) -> u8
-    ensures { result ≡ inputs_status refusal.now }
-{
-    match refusal {
-        InputsRefusal::Network(refusal) => network_status(*refusal),
-        InputsRefusal::Table(refusal) => table_status(refusal),
-    }
-}
-
-#[tactic(auto, unfolding(crate::specs::FileRefusal::file_text))]
-pub fn file_line(alloc: Global, label: &[u8], name: &[u8]) -> Result<Vec<u8>, NoMemory>
-    ensures { IfOk result (λ line. line.items ≡ file_text label.now name.now) }
+/// A line about a file or another name.
+#[tactic(auto, unfolding(crate::specs::RefusalText::name_text))]
+pub fn name_line(alloc: Global, label: &[u8], name: &[u8]) -> Result<Vec<u8>, NoMemory>
+    ensures { IfOk result (λ line. line.items ≡ name_text label.now name.now) }
 {
     let mut line = Vec::from_slice(alloc, label)?;
     line.extend_from_slice(name)?;
@@ -166,14 +83,87 @@ pub fn file_line(alloc: Global, label: &[u8], name: &[u8]) -> Result<Vec<u8>, No
     Ok(line)
 }
 
-#[tactic(auto, unfolding(crate::specs::FileRefusal::too_long_text))]
-fn too_long_line(alloc: Global, name: &[u8]) -> Result<Vec<u8>, NoMemory>
-    ensures { IfOk result (λ line. line.items ≡ too_long_text name.now) }
+/// The line of a file that is too long.
+#[tactic(auto, unfolding(crate::specs::RefusalText::too_long_text))]
+fn too_long_line(alloc: Global, names: &Names<'_>, file: File) -> Result<Vec<u8>, NoMemory>
+    ensures { IfOk result (λ line. line.items ≡ too_long_text (name_of (names_data names.now) file)) }
 {
     let mut line = Vec::from_slice(alloc, b"too long: ")?;
-    line.extend_from_slice(name)?;
+    line.extend_from_slice(name_of(names, file).as_bytes())?;
     line.extend_from_slice(b" ")?;
     push_number(&mut line, MOST_BYTES)?;
+    line.extend_from_slice(b"\n")?;
+    Ok(line)
+}
+
+/// The line of a fault at a place of the network file.
+#[tactic(auto, unfolding(crate::specs::RefusalText::place_text))]
+fn place_line(
+    alloc: Global,
+    kind: NetKind,
+    table: TableName,
+    index: u16,
+    key: Option<Key>,
+) -> Result<Vec<u8>, NoMemory>
+    ensures { IfOk result (λ line. line.items ≡ place_text kind table index key) }
+{
+    let mut line = Vec::from_slice(alloc, b"network: ")?;
+    line.extend_from_slice(kind_word(kind))?;
+    line.extend_from_slice(b" ")?;
+    line.extend_from_slice(table_word(table))?;
+    line.extend_from_slice(b" ")?;
+    push_number(&mut line, u64::from(index))?;
+    push_key(&mut line, key)?;
+    line.extend_from_slice(b"\n")?;
+    Ok(line)
+}
+
+fn push_key(line: &mut Vec<u8>, key: Option<Key>) -> Result<(), NoMemory>
+    ensures { OnOk result (line.new.items ≡ line.old.items ++ key_text key) }
+{
+    let Some(key) = key else {
+        return Ok(());
+    };
+    line.extend_from_slice(b" ")?;
+    line.extend_from_slice(word(key).as_bytes())?;
+    Ok(())
+}
+
+/// The line of a quantity that passes its limit.
+#[tactic(auto, unfolding(crate::specs::RefusalText::too_many_text))]
+fn too_many_line(alloc: Global, what: What, limit: u32) -> Result<Vec<u8>, NoMemory>
+    ensures { IfOk result (λ line. line.items ≡ too_many_text what limit) }
+{
+    let mut line = Vec::from_slice(alloc, b"too many: ")?;
+    line.extend_from_slice(what_word(what))?;
+    line.extend_from_slice(b" ")?;
+    push_number(&mut line, u64::from(limit))?;
+    line.extend_from_slice(b"\n")?;
+    Ok(line)
+}
+
+/// The line of a fault of a record of the currents table.
+#[tactic(auto, unfolding(crate::specs::RefusalText::record_text))]
+fn record_line(alloc: Global, kind: &[u8], n: u32) -> Result<Vec<u8>, NoMemory>
+    ensures { IfOk result (λ line. line.items ≡ record_text kind.now n) }
+{
+    let mut line = Vec::from_slice(alloc, b"currents: ")?;
+    line.extend_from_slice(kind)?;
+    line.extend_from_slice(b" ")?;
+    push_number(&mut line, u64::from(n))?;
+    line.extend_from_slice(b"\n")?;
+    Ok(line)
+}
+
+/// The line of a fault at a line of the sheet.
+#[tactic(auto, unfolding(crate::specs::RefusalText::sheet_line_text))]
+fn sheet_line(alloc: Global, number: u32, kind: SheetKind) -> Result<Vec<u8>, NoMemory>
+    ensures { IfOk result (λ line. line.items ≡ sheet_line_text number kind) }
+{
+    let mut line = Vec::from_slice(alloc, b"sheet: line ")?;
+    push_number(&mut line, u64::from(number))?;
+    line.extend_from_slice(b" ")?;
+    line.extend_from_slice(due_word(kind))?;
     line.extend_from_slice(b"\n")?;
     Ok(line)
 }

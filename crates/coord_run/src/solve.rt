@@ -1,23 +1,29 @@
 //! The command `solve`.
-ghost use Rattle.std.specs.Prelude.{◌≡◌, ◌≤◌, IfOk, IfErr, OnOk, OnErr};
-ghost use Rattle.coord_io.specs.Faults.{Rose};
-ghost use Rattle.coord_io.specs.Files.{Becomes, StaysOrPart};
-ghost use Rattle.coord_io.specs.Goes.{Goes};
+ghost use Rattle.std.specs.Prelude.{◌≡◌, IfOk, IfErr};
+ghost use Rattle.std.specs.Option.{option_map};
+ghost use Rattle.coord_io.specs.Outside.{IsReadAlone};
+ghost use Rattle.coord_run.specs.Handing.{HasFaultLine, output_data};
 ghost use Rattle.coord_run.specs.Names.{names_data};
-ghost use Rattle.coord_run.specs.Outside.{IsReadAlone, folder_at, sink_at};
-ghost use Rattle.coord_run.specs.Settlement.{HandsOver, IsFound};
-ghost use Rattle.coord_run.specs.Solve.{SolveCause, Solves};
-ghost use Rattle.coord_run.specs.SolveRefusal.{solve_status, solve_text};
+ghost use Rattle.coord_run.specs.Outcome.{issued_data, outcome_data, sheet_of, sheet_with};
+ghost use Rattle.coord_run.specs.Solve.{IsOutputOf, IsSolved, SolveCause, Solves};
+ghost use Rattle.coord_run.specs.Steps.{HasManyPickups};
 ghost use Rattle.coord_run.specs.Stops.{StopsFor};
+ghost use Rattle.settings_sheet.specs.SheetText.{sheet_data};
 
+use crate::decide::decide;
+use crate::end::{NewFile, Output, hand_over};
 use crate::inputs::read_case;
-use crate::printing::{NO_MEMORY, WRITE_FAULT, print, refuse};
-use crate::refusal::{SolveRefusal, Stop};
-use crate::refusal_line::{case_line, case_status};
-use crate::settle::{Settlement, has_many_pickups, settle};
+use crate::outcome::{Issued, Outcome};
+use crate::refusal::{Refusal, Stop};
+use crate::refusal_line::name_line;
+use crate::report::report_bytes;
+use crate::status::outcome_status;
+use crate::steps::has_many_pickups;
 use crate::words::Names;
-use coord_io::{Failed, Folder, Sink, append_whole};
-use coord_model::NoMemory;
+use coord_io::{Folder, Sink};
+use coord_model::{Ending, NoMemory};
+use margin_rows::Instance;
+use settings_sheet::{Sheet, sheet_bytes};
 use std::alloc::Global;
 
 /// Reads the network and the currents, writes the sheet and prints the report, or the line of a refusal.
@@ -29,84 +35,76 @@ pub fn solve<F: Folder, K: Sink>(
     out: &mut K,
     names: &Names<'_>,
 ) -> u8
-    ensures { Solves (names_data names.now) (folder_at F.files F.read_faults F.write_faults folder.old)
-        (folder_at F.files F.read_faults F.write_faults folder.new)
-        (sink_at K.written K.faults out.old) (sink_at K.written K.faults out.new) result }
+    ensures { Solves (names_data names.now) (F.state folder.old) (F.state folder.new) (K.state out.old) (K.state out.new) result }
 {
-    match find(alloc, folder, names) {
-        Ok(found) => hand_over(folder, out, names, &found),
-        Err(Stop::Refused(refusal)) => {
-            let line = solve_line(alloc, names, &refusal);
-            refuse(out, line, solve_status(&refusal))
-        }
-        Err(Stop::NoMemory) => NO_MEMORY,
-    }
+    let work = work(alloc, folder, names);
+    hand_over(alloc, folder, out, names, work)
 }
 
-/// What is to be written, found before any file is started.
-fn find<F: Folder>(
-    alloc: Global,
-    folder: &mut F,
-    names: &Names<'_>,
-) -> Result<Settlement, Stop<SolveRefusal>>
-    ensures found { IfOk result (IsFound (names_data names.now) (folder_at F.files F.read_faults F.write_faults folder.old)
-        (folder_at F.files F.read_faults F.write_faults folder.new)) }
-    ensures stopped { IfErr result (λ stop. StopsFor stop (SolveCause (names_data names.now)
-        (folder_at F.files F.read_faults F.write_faults folder.old)
-        (folder_at F.files F.read_faults F.write_faults folder.new))) }
-    ensures alone { IsReadAlone (folder_at F.files F.read_faults F.write_faults folder.old)
-        (folder_at F.files F.read_faults F.write_faults folder.new) }
+/// The sheet and the report, made before any file is started.
+fn work<'a, F: Folder>(alloc: Global, folder: &mut F, names: &Names<'a>) -> Result<Output<'a>, Stop>
+    ensures solved { IfOk result (λ output. IsSolved (names_data names.now) (F.state folder.old) (F.state folder.new) (output_data output)) }
+    ensures line { IfOk result HasFaultLine }
+    ensures stopped { IfErr result (λ stop. StopsFor stop (SolveCause (names_data names.now) (F.state folder.old) (F.state folder.new))) }
+    ensures alone { IsReadAlone (F.state folder.old) (F.state folder.new) }
 {
     let inst = read_case(alloc, folder, names.network, names.currents)?;
     if has_many_pickups(&inst) {
-        return Err(Stop::Refused(SolveRefusal::PickupsNotBuilt));
+        return Err(Stop::Refused(Refusal::PickupsNotBuilt));
     }
-    Ok(settle(alloc, names, &inst)?)
+    Ok(output(alloc, names, &inst)?)
 }
 
-/// Writes the sheet and prints the report, or the line of a write fault. It takes no memory.
-fn hand_over<F: Folder, K: Sink>(
-    folder: &mut F,
-    out: &mut K,
-    names: &Names<'_>,
-    found: &Settlement,
-) -> u8
-    ensures { HandsOver names.now.sheet.now found.now (folder_at F.files F.read_faults F.write_faults folder.old)
-        (folder_at F.files F.read_faults F.write_faults folder.new)
-        (sink_at K.written K.faults out.old) (sink_at K.written K.faults out.new) result }
+/// The sheet and the report of what an instance comes to.
+fn output<'a>(alloc: Global, names: &Names<'a>, inst: &Instance) -> Result<Output<'a>, NoMemory>
+    requires { ¬ (HasManyPickups inst.now) }
+    ensures output { IfOk result (λ output. IsOutputOf (names_data names.now) inst.now (output_data output)) }
+    ensures line { IfOk result HasFaultLine }
 {
-    match put(folder, names.sheet, found.sheet.as_slice()) {
-        Ok(()) => print(out, found.report.as_slice(), found.status),
-        Err(Failed) => print(out, found.fault_line.as_slice(), WRITE_FAULT),
-    }
+    let outcome = decide(alloc, inst)?;
+    let report = report_bytes(alloc, inst, &outcome)?;
+    let status = outcome_status(&outcome);
+    let fault_line = name_line(alloc, b"write fault: ", names.sheet.as_bytes())?;
+    let text = sheet_bytes(alloc, inst.study(), &sheet_of(outcome))?;
+    let file = NewFile {
+        name: names.sheet,
+        text,
+        fault_line,
+    };
+    Ok(Output {
+        file: Some(file),
+        report,
+        status,
+    })
 }
 
-/// Writes a whole file.
-fn put<F: Folder>(folder: &mut F, name: &str, bytes: &[u8]) -> Result<(), Failed>
-    ensures whole { OnOk result (Goes (F.files folder.old) (F.files folder.new) (Becomes name.now bytes.now)) }
-    ensures part { OnErr result (Goes (F.files folder.old) (F.files folder.new) (StaysOrPart name.now bytes.now)) }
-    ensures failed { OnErr result (Rose (F.write_faults folder.old) (F.write_faults folder.new)) }
+/// The sheet of an outcome.
+fn sheet_of(outcome: Outcome) -> Sheet
+    ensures { sheet_data result ≡ sheet_of (outcome_data outcome) }
 {
-    folder.start(name)?;
-    append_whole(folder, name, bytes)
-}
-
-/// The line of a refusal.
-fn solve_line(alloc: Global, names: &Names<'_>, refusal: &SolveRefusal) -> Result<Vec<u8>, NoMemory>
-    ensures { IfOk result (λ line. line.items ≡ solve_text (names_data names.now) refusal.now) }
-{
-    match refusal {
-        SolveRefusal::Case(refusal) => case_line(alloc, names.network, names.currents, refusal),
-        SolveRefusal::PickupsNotBuilt => Ok(Vec::from_slice(alloc, b"not built: pickups\n")?),
+    match outcome {
+        Outcome::Closed { issued, bound } => sheet(Ending::Closed, Some(issued), Some(bound)),
+        Outcome::NoSettings => sheet(Ending::NoSettings, None, None),
+        Outcome::Hairline { issued, bound, .. } => sheet(Ending::Hairline, issued, Some(bound)),
     }
 }
 
-/// The status of a refusal.
-fn solve_status(refusal: &SolveRefusal) -> u8
-    ensures { result ≡ solve_status refusal.now }
+/// The sheet of an ending, of what is issued and of a bound.
+fn sheet(ending: Ending, issued: Option<Issued>, bound: Option<u64>) -> Sheet
+    ensures { sheet_data result ≡ sheet_with ending (option_map issued_data issued) bound }
 {
-    match refusal {
-        SolveRefusal::Case(refusal) => case_status(refusal),
-        SolveRefusal::PickupsNotBuilt => 21,
+    match issued {
+        Some(issued) => Sheet {
+            ending,
+            cost: Some(issued.cost),
+            bound,
+            choice: Some(issued.choice),
+        },
+        None => Sheet {
+            ending,
+            cost: None,
+            bound,
+            choice: None,
+        },
     }
 }

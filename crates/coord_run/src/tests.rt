@@ -1,15 +1,14 @@
-//! What no clause says: that calls succeed, the printed texts, and which planned fault is met. The settings, costs
-//! and margins were worked out by hand.
+//! What no clause says: that calls succeed, the values of whole studies, and which planned failure is met. The settings,
+//! costs and margins were worked out by hand.
 mod endings;
-mod faults;
 mod limits;
 mod listing;
 mod margins;
 mod refusals;
-mod words;
 
-use crate::top::run;
-use coord_io::{Fail, Folder, MemFile, MemFolder, MemSink, names_differ};
+use crate::program::run;
+use coord_io::{CallKind, Fail, MemFile, MemFolder, MemSink, names_differ};
+use coord_model::Name;
 use std::alloc::AllocError;
 use std::process::Abort;
 use std::test;
@@ -93,16 +92,10 @@ const OLD_SHEET: &str = "an old sheet\n";
 
 const SOLVE: [&str; 4] = ["solve", "n", "t", "s"];
 
-const USAGE: &str =
-    "usage: coord solve NETWORK CURRENTS SHEET, pairs NETWORK, margins NETWORK CURRENTS SHEET\n";
+const MARGINS: [&str; 4] = ["margins", "n", "t", "s"];
 
-/// The network with the first of each part replaced in turn.
-fn changed(
-    rt: &(impl AllocGlobal + Abort),
-    changes: &[(&str, &str)],
-) -> Result<String, AllocError> {
-    edited(rt, NETWORK, changes)
-}
+/// A call of a file that is to fail: its kind, the file and the number of the call.
+type Planned = Option<(CallKind, &'static str, u32)>;
 
 /// The text with the first of each part replaced in turn.
 fn edited(
@@ -124,11 +117,11 @@ fn edited(
     Ok(text)
 }
 
-/// A folder of these files that fails at these calls.
+/// A folder of these files that fails at this call.
 fn folder_of(
     rt: &(impl AllocGlobal + Abort),
     files: &[(&str, &str)],
-    fails: Vec<Fail>,
+    planned: Planned,
 ) -> Result<MemFolder, AllocError> {
     let mut made = Vec::new(rt.alloc());
     for (name, text) in files {
@@ -137,65 +130,39 @@ fn folder_of(
             bytes: Vec::from_slice(rt.alloc(), text.as_bytes())?,
         })?;
     }
+    let mut fails = Vec::new(rt.alloc());
+    if let Some((call, name, nth)) = planned {
+        let name = Name::new(name.as_bytes()).expect(rt, "a name");
+        fails.push(Fail { call, name, nth })?;
+    }
     assert!(rt; names_differ(&made));
     Ok(MemFolder::new(rt.alloc(), made, fails))
 }
 
-/// The network n, the currents t and an old sheet s.
-fn inputs<'x>(
+/// The program called with these words over these files: asserts the status, what is printed, and the files afterwards.
+fn answers(
     rt: &(impl AllocGlobal + Abort),
-    network: &'x str,
-    currents: &'x str,
-    fails: Vec<Fail>,
-) -> Result<MemFolder, AllocError> {
-    folder_of(
-        rt,
-        &[("n", network), ("t", currents), ("s", OLD_SHEET)],
-        fails,
-    )
-}
-
-/// The words as the program is given them.
-fn owned(rt: &impl AllocGlobal, words: &[&str]) -> Result<Vec<String>, AllocError> {
+    words: &[&str],
+    files: &[(&str, &str)],
+    planned: Planned,
+    status: u8,
+    text: &str,
+    after: &[(&str, &str)],
+) -> Result<(), AllocError> {
+    let mut folder = folder_of(rt, files, planned)?;
     let mut owned = Vec::new(rt.alloc());
     for word in words {
         owned.push(String::from_str(rt.alloc(), word)?)?;
     }
-    Ok(owned)
-}
-
-/// The program called with these words, over a sink that fails at these calls.
-fn call<F: Folder>(
-    rt: &impl AllocGlobal,
-    words: &[&str],
-    folder: &mut F,
-    fails: Vec<u32>,
-) -> Result<(u8, MemSink), AllocError> {
-    let owned = owned(rt, words)?;
-    let mut out = MemSink::new(rt.alloc(), fails);
-    let status = run(rt.alloc(), owned.as_slice(), folder, &mut out);
-    Ok((status, out))
-}
-
-/// Asserts that the words are answered by this status and text.
-fn answers(
-    rt: &(impl AllocGlobal + Abort),
-    words: &[&str],
-    folder: &mut MemFolder,
-    status: u8,
-    text: &str,
-) -> Result<(), AllocError> {
-    let (found, out) = call(rt, words, folder, Vec::new(rt.alloc()))?;
-    let printed = String::from_utf8_lossy(rt.alloc(), out.bytes())?;
-    assert_eq!(rt; printed.as_str(), text);
+    let mut out = MemSink::new(rt.alloc(), Vec::new(rt.alloc()));
+    let found = run(rt.alloc(), owned.as_slice(), &mut folder, &mut out);
+    assert!(rt; out.bytes() == text.as_bytes(), "not printed: {text}");
     assert_eq!(rt; found, status, "{text}");
+    for (name, bytes) in after {
+        assert!(rt;
+            folder.bytes(name) == Some(bytes.as_bytes()),
+            "{name} is not {bytes}"
+        );
+    }
     Ok(())
-}
-
-/// Asserts that the file has this text.
-fn holds(rt: &impl Abort, folder: &MemFolder, name: &str, text: &str) {
-    let Some(bytes) = folder.bytes(name) else {
-        panic!(rt; "no file {name}");
-    };
-    assert_eq!(rt; bytes, text.as_bytes(), "{name} is not {text}");
 }

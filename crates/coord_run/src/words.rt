@@ -69,9 +69,9 @@ pub struct Names<'a> {
     pub sheet: &'a str,
 }
 
-/// The command that the words behind the program's name are.
+/// The command that the words after the program's name are.
 ///
-/// The first word is the command, and the words behind it are its names. A name that begins with `-` stands behind the
+/// The first word is the command, and the words after it are its names. A name that begins with `-` comes after the
 /// word `--`, unless it is `-` alone. No other word is taken.
 pub fn read_words(alloc: Global, words: &[String]) -> Result<Command, WordsRefusal>
     ensures { Reads command_data (command_of (map string_bytes words.now)) result }

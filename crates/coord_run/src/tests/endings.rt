@@ -1,14 +1,4 @@
 use super::*;
-use coord_io::{DiskFolder, read_whole};
-use std::fs;
-
-/// The fault on the first line, alone.
-const SECOND_FAULT: &str = r#"
-[[fault]]
-name = "F2"
-line = "AB"
-weight = 1
-"#;
 
 /// One relay on one line.
 const ALONE: &str = r#"format = 1
@@ -32,92 +22,135 @@ name = "F1"
 line = "AB"
 "#;
 
-/// Asserts that the network and the currents end so: the status, what is printed, and the sheet.
-pub fn ends(
-    rt: &(impl AllocGlobal + Abort),
-    network: &str,
-    currents: &str,
+/// The fault on the first line, alone.
+const SECOND_FAULT: &str = r#"
+[[fault]]
+name = "F2"
+line = "AB"
+weight = 1
+"#;
+
+/// A study and how it ends: the network with parts of it replaced, the table, the status, the report and the sheet.
+struct Ending {
+    network: &'static str,
+    changes: &'static [(&'static str, &'static str)],
+    currents: &'static str,
     status: u8,
-    text: &str,
-    sheet: &str,
-) -> Result<(), AllocError> {
-    let mut folder = inputs(rt, network, currents, Vec::new(rt.alloc()))?;
-    answers(rt, &SOLVE, &mut folder, status, text)?;
-    holds(rt, &folder, "s", sheet);
-    holds(rt, &folder, "n", network);
-    holds(rt, &folder, "t", currents);
+    report: &'static str,
+    sheet: &'static str,
+}
+
+/// Asserts that the studies end so.
+fn end(rt: &(impl AllocGlobal + Abort), endings: &[Ending]) -> Result<(), AllocError> {
+    for ending in endings {
+        let network = edited(rt, ending.network, ending.changes)?;
+        ends(
+            rt,
+            network.as_str(),
+            ending.currents,
+            ending.status,
+            ending.report,
+            ending.sheet,
+        )?;
+    }
     Ok(())
 }
+
+/// Asserts that the network and the currents end so: the status, what is printed, and the sheet.
+fn ends<'x>(
+    rt: &(impl AllocGlobal + Abort),
+    network: &'x str,
+    currents: &'x str,
+    status: u8,
+    report: &str,
+    sheet: &str,
+) -> Result<(), AllocError> {
+    let files = [("n", network), ("t", currents), ("s", OLD_SHEET)];
+    answers(rt, &SOLVE, &files, None, status, report, &[("s", sheet)])
+}
+
+const BY_DIALS: [Ending; 6] = [
+    Ending {
+        network: NETWORK,
+        changes: &[],
+        currents: CURRENTS,
+        status: 0,
+        report: REPORT,
+        sheet: SHEET,
+    },
+    // 0.3 s at F1, 0.225 s more than R2
+    Ending {
+        network: NETWORK,
+        changes: &[("dial_first = 250", "dial_first = 200")],
+        currents: CURRENTS,
+        status: 3,
+        report: "no settings boxes 1\n",
+        sheet: NO_SETTINGS,
+    },
+    // 600 A of load with its reserve, above the pickup of 100 A
+    Ending {
+        network: NETWORK,
+        changes: &[("load_amps = 0", "load_amps = 500")],
+        currents: CURRENTS,
+        status: 3,
+        report: "no settings boxes 1\n",
+        sheet: NO_SETTINGS,
+    },
+    // R2 at 0.050 takes 75 ms at F1, so R1 needs 375 ms, which is 0.250
+    Ending {
+        network: NETWORK,
+        changes: &[
+            ("dial_first = 250", "dial_first = 50"),
+            ("dial_count = 1\n", "dial_count = 20\n"),
+            ("dial_count = 1\n", "dial_count = 20\n"),
+        ],
+        currents: CURRENTS,
+        status: 0,
+        report: REPORT,
+        sheet: SHEET,
+    },
+    // with 0.200 at most it takes 300 ms, 225 ms more than R2
+    Ending {
+        network: NETWORK,
+        changes: &[
+            ("dial_first = 250", "dial_first = 50"),
+            ("dial_count = 1\n", "dial_count = 4\n"),
+            ("dial_count = 1\n", "dial_count = 20\n"),
+        ],
+        currents: CURRENTS,
+        status: 3,
+        report: "no settings boxes 1\n",
+        sheet: NO_SETTINGS,
+    },
+    // the table in another form
+    Ending {
+        network: NETWORK,
+        changes: &[],
+        currents: "\u{feff}\"fault\",relay,amps\nF1,\"R2\",1000\n\"F1\",R1,\"1000\"\nF2,R1,001900\nF2,R2,0\n",
+        status: 0,
+        report: REPORT,
+        sheet: SHEET,
+    },
+];
 
 #[test]
 fn two_relays_in_line_end_by_their_dials(rt: HostRuntime) -> Result<(), test::Fail> {
-    ends(&rt, NETWORK, CURRENTS, 0, REPORT, SHEET)?;
-
-    // 0.3 s at F1, 0.225 s more than R2
-    let short = changed(&rt, &[("dial_first = 250", "dial_first = 200")])?;
-    ends(
-        &rt,
-        &short,
-        CURRENTS,
-        3,
-        "no settings boxes 1\n",
-        NO_SETTINGS,
-    )?;
-
-    // 600 A of load with its reserve, above the pickup of 100 A
-    let loaded = changed(&rt, &[("load_amps = 0", "load_amps = 500")])?;
-    ends(
-        &rt,
-        &loaded,
-        CURRENTS,
-        3,
-        "no settings boxes 1\n",
-        NO_SETTINGS,
-    )?;
-
-    // 13.5/7 s for each at 8 times pickup: 0.140 times that is the interval exactly, but its enclosure is not
-    let exact = changed(
-        &rt,
-        &[
-            ("cti_ms = 300", "cti_ms = 270"),
-            ("dial_first = 250", "dial_first = 280"),
-            ("dial_first = 50", "dial_first = 140"),
-            (SECOND_FAULT, ""),
-        ],
-    )?;
-    ends(
-        &rt,
-        &exact,
-        "fault,relay,amps\nF1,R2,800\nF1,R1,800\n",
-        7,
-        "hairline cost none bound 269999 boxes 1
-row F1 R1 R2 loose 200 strict -220
-relay R1 plug 1.00 dial 0.280
-relay R2 plug 1.00 dial 0.140
-",
-        "coord-sheet 1\nending hairline\ncost none\nbound 269999\nend\n",
-    )?;
-    Ok(())
+    Ok(end(&rt, &BY_DIALS)?)
 }
 
-// At 5 times pickup extremely inverse of IEEE takes 28.2/24 + 0.1217 s, which the dial multiplies as a whole: 2.5934 s
-// at 2.000. That is 2.5184 s more than the very inverse relay of IEC at 10 times pickup, which takes 13.5/9 s times 0.050.
-#[test]
-fn relays_of_both_standards_end_by_their_curves(rt: HostRuntime) -> Result<(), test::Fail> {
-    let mixed = changed(
-        &rt,
-        &[
+const BY_CURVES: [Ending; 3] = [
+    // At 5 times pickup extremely inverse of IEEE takes 28.2/24 + 0.1217 s, which the dial multiplies as a whole: 2.5934 s at
+    // 2.000. That is 2.5184 s more than the very inverse relay of IEC at 10 times pickup, which takes 13.5/9 s times 0.050.
+    Ending {
+        network: NETWORK,
+        changes: &[
             ("iec-b", "ieee-ei"),
             ("dial_first = 250", "dial_first = 2000"),
         ],
-    )?;
-    ends(
-        &rt,
-        &mixed,
-        "fault,relay,amps\nF1,R2,1000\nF1,R1,500\nF2,R1,500\n",
-        0,
-        "closed cost 2668400 bound 2668400 boxes 1\n",
-        "coord-sheet 1
+        currents: "fault,relay,amps\nF1,R2,1000\nF1,R1,500\nF2,R1,500\n",
+        status: 0,
+        report: "closed cost 2668400 bound 2668400 boxes 1\n",
+        sheet: "coord-sheet 1
 ending closed
 cost 2668400
 bound 2668400
@@ -125,17 +158,16 @@ relay R1 plug 1.00 dial 2.000
 relay R2 plug 1.00 dial 0.050
 end
 ",
-    )?;
-    // inverse of IEC at 10 times pickup: 0.14/(10^0.02 - 1) is 2.970598624.. s, times 0.250 and 0.050 and a second time
-    // 0.250 for the other fault. Its ends are at most 100 ns apart, so that the sum lies between two microseconds.
-    let inverse = changed(&rt, &[("iec-b", "iec-a"), ("iec-b", "iec-a")])?;
-    ends(
-        &rt,
-        &inverse,
-        "fault,relay,amps\nF1,R2,1000\nF1,R1,1000\nF2,R1,1000\n",
-        0,
-        "closed cost 891180 bound 891179 boxes 1\n",
-        "coord-sheet 1
+    },
+    // Inverse of IEC at 10 times pickup: 0.14/(10^0.02 - 1) is 2.970598624.. s, times 0.250 and 0.050 and a second time 0.250
+    // for the other fault. Its ends are at most 100 ns apart, so that the sum lies between two microseconds.
+    Ending {
+        network: NETWORK,
+        changes: &[("iec-b", "iec-a"), ("iec-b", "iec-a")],
+        currents: "fault,relay,amps\nF1,R2,1000\nF1,R1,1000\nF2,R1,1000\n",
+        status: 0,
+        report: "closed cost 891180 bound 891179 boxes 1\n",
+        sheet: "coord-sheet 1
 ending closed
 cost 891180
 bound 891179
@@ -143,213 +175,358 @@ relay R1 plug 1.00 dial 0.250
 relay R2 plug 1.00 dial 0.050
 end
 ",
-    )?;
-    Ok(())
-}
-
-#[test]
-fn one_relay_ends_by_its_multiple(rt: HostRuntime) -> Result<(), test::Fail> {
-    // sensed from 1.1 times pickup on, where the time is 135 s times the dial
-    ends(
-        &rt,
-        ALONE,
-        "fault,relay,amps\nF1,R1,110\n",
-        0,
-        "closed cost 6750000 bound 6750000 boxes 1\n",
-        "coord-sheet 1\nending closed\ncost 6750000\nbound 6750000\nrelay R1 plug 1.00 dial 0.050\nend\n",
-    )?;
-    ends(
-        &rt,
-        ALONE,
-        "fault,relay,amps\nF1,R1,109\n",
-        3,
-        "no settings boxes 1\n",
-        NO_SETTINGS,
-    )?;
-    // capped at 20 times pickup: 13.5/19 s times the dial, the cost rounded up and the bound down
-    ends(
-        &rt,
-        ALONE,
-        "fault,relay,amps\nF1,R1,100000\n",
-        0,
-        "closed cost 35527 bound 35526 boxes 1\n",
-        "coord-sheet 1\nending closed\ncost 35527\nbound 35526\nrelay R1 plug 1.00 dial 0.050\nend\n",
-    )?;
-    Ok(())
-}
-
-/// The two relays with dials of 0.050 to 1.000, and so many of them for R1.
-pub fn dialled(rt: &(impl AllocGlobal + Abort), count: &'static str) -> Result<String, AllocError> {
-    changed(
-        rt,
-        &[
-            ("dial_first = 250", "dial_first = 50"),
-            ("dial_count = 1\n", count),
-            ("dial_count = 1\n", "dial_count = 20\n"),
-        ],
-    )
-}
-
-#[test]
-fn the_least_dials_are_issued(rt: HostRuntime) -> Result<(), test::Fail> {
-    // R2 at 0.050 takes 75 ms at F1, so R1 needs 375 ms, which is 0.250
-    ends(
-        &rt,
-        &dialled(&rt, "dial_count = 20\n")?,
-        CURRENTS,
-        0,
-        REPORT,
-        SHEET,
-    )?;
-    // with 0.200 at most it takes 300 ms, 225 ms more than R2
-    ends(
-        &rt,
-        &dialled(&rt, "dial_count = 4\n")?,
-        CURRENTS,
-        3,
-        "no settings boxes 1\n",
-        NO_SETTINGS,
-    )?;
+    },
     // extremely inverse at 3 times pickup: 10 s at dial 1, so 0.8 s and 0.5 s lie 0.3 s apart
-    let inverse = changed(
-        &rt,
-        &[
+    Ending {
+        network: NETWORK,
+        changes: &[
             ("iec-b", "iec-c"),
             ("iec-b", "iec-c"),
             ("dial_first = 250", "dial_first = 80"),
         ],
-    )?;
-    ends(
-        &rt,
-        &inverse,
-        "fault,relay,amps\nF1,R2,300\nF1,R1,300\nF2,R1,300\n",
-        0,
-        "closed cost 1300000 bound 1300000 boxes 1\n",
-        "coord-sheet 1\nending closed\ncost 1300000\nbound 1300000\nrelay R1 plug 1.00 dial 0.080\nrelay R2 plug 1.00 dial 0.050\nend\n",
-    )?;
-    Ok(())
+        currents: "fault,relay,amps\nF1,R2,300\nF1,R1,300\nF2,R1,300\n",
+        status: 0,
+        report: "closed cost 1300000 bound 1300000 boxes 1\n",
+        sheet: "coord-sheet 1\nending closed\ncost 1300000\nbound 1300000\nrelay R1 plug 1.00 dial 0.080\nrelay R2 plug 1.00 dial 0.050\nend\n",
+    },
+];
+
+#[test]
+fn relays_of_both_standards_end_by_their_curves(rt: HostRuntime) -> Result<(), test::Fail> {
+    Ok(end(&rt, &BY_CURVES)?)
 }
 
-const HAIR: &str = "row F1 R1 R2 loose 200 strict -220
-relay R1 plug 1.00 dial 0.280
-relay R2 plug 1.00 dial 0.140
-";
+const BY_MULTIPLES: [Ending; 5] = [
+    // sensed from 1.1 times pickup on, where the time is 135 s times the dial
+    Ending {
+        network: ALONE,
+        changes: &[],
+        currents: "fault,relay,amps\nF1,R1,110\n",
+        status: 0,
+        report: "closed cost 6750000 bound 6750000 boxes 1\n",
+        sheet: "coord-sheet 1\nending closed\ncost 6750000\nbound 6750000\nrelay R1 plug 1.00 dial 0.050\nend\n",
+    },
+    Ending {
+        network: ALONE,
+        changes: &[],
+        currents: "fault,relay,amps\nF1,R1,109\n",
+        status: 3,
+        report: "no settings boxes 1\n",
+        sheet: NO_SETTINGS,
+    },
+    // capped at 20 times pickup: 13.5/19 s times the dial, the cost rounded up and the bound down
+    Ending {
+        network: ALONE,
+        changes: &[],
+        currents: "fault,relay,amps\nF1,R1,100000\n",
+        status: 0,
+        report: "closed cost 35527 bound 35526 boxes 1\n",
+        sheet: "coord-sheet 1\nending closed\ncost 35527\nbound 35526\nrelay R1 plug 1.00 dial 0.050\nend\n",
+    },
+    // 110 A is 1.10 times 1.00 A and less than 1.10 times 1.01 A, so one plug is left
+    Ending {
+        network: ALONE,
+        changes: &[("dial_first", "plug_step = 1\nplug_count = 2\ndial_first")],
+        currents: "fault,relay,amps\nF1,R1,110\n",
+        status: 0,
+        report: "closed cost 6750000 bound 6750000 boxes 1\n",
+        sheet: "coord-sheet 1\nending closed\ncost 6750000\nbound 6750000\nrelay R1 plug 1.00 dial 0.050\nend\n",
+    },
+    // a load of 500 A needs 600 A, and the pickup is 200 A at most
+    Ending {
+        network: ALONE,
+        changes: &[(
+            "dial_first",
+            "plug_step = 100\nplug_count = 2\nload_amps = 500\ndial_first",
+        )],
+        currents: "fault,relay,amps\nF1,R1,1000\n",
+        status: 3,
+        report: "no settings boxes 1\n",
+        sheet: NO_SETTINGS,
+    },
+];
 
-/// 270 ms is 0.140 times 13.5/7 s, the time at 8 times pickup: R2 at 0.140 and R1 at 0.280 lie that far apart exactly, but
-/// their enclosures do not show it.
-pub fn at_a_hairline(
-    rt: &(impl AllocGlobal + Abort),
-    first: &'static str,
-    second: &'static str,
-) -> Result<String, AllocError> {
-    changed(
-        rt,
-        &[
+#[test]
+fn one_relay_ends_by_its_multiple(rt: HostRuntime) -> Result<(), test::Fail> {
+    Ok(end(&rt, &BY_MULTIPLES)?)
+}
+
+// 270 ms is 0.140 times 13.5/7 s, the time at 8 times pickup: R2 at 0.140 and R1 at 0.280 lie that far apart exactly, but
+// their enclosures do not show it.
+const AT_HAIRLINES: [Ending; 2] = [
+    Ending {
+        network: NETWORK,
+        changes: &[
             ("cti_ms = 300", "cti_ms = 270"),
-            ("dial_first = 250\ndial_step = 50\ndial_count = 1\n", first),
+            (
+                "dial_first = 250\ndial_step = 50\ndial_count = 1\n",
+                "dial_first = 140\ndial_step = 140\ndial_count = 2\n",
+            ),
             (
                 "dial_first = 50\ndial_step = 50\ndial_count = 1\n",
                 "dial_first = 140\ndial_step = 140\ndial_count = 2\n",
             ),
-            (SECOND_FAULT, second),
+            (SECOND_FAULT, ""),
         ],
-    )
-}
-
-#[test]
-fn a_hairline_with_and_without_settings(rt: HostRuntime) -> Result<(), test::Fail> {
-    let alone = at_a_hairline(
-        &rt,
-        "dial_first = 140\ndial_step = 140\ndial_count = 2\n",
-        "",
-    )?;
-    let mut text = String::from_str(rt.alloc(), "hairline cost none bound 269999 boxes 1\n")?;
-    text.push_str(HAIR)?;
-    ends(
-        &rt,
-        &alone,
-        "fault,relay,amps\nF1,R2,800\nF1,R1,800\n",
-        7,
-        text.as_str(),
-        "coord-sheet 1\nending hairline\ncost none\nbound 269999\nend\n",
-    )?;
-
+        currents: "fault,relay,amps\nF1,R2,800\nF1,R1,800\n",
+        status: 7,
+        report: "hairline cost none bound 269999 boxes 1
+row F1 R1 R2 loose 200 strict -220
+relay R1 plug 1.00 dial 0.280
+relay R2 plug 1.00 dial 0.140
+",
+        sheet: "coord-sheet 1\nending hairline\ncost none\nbound 269999\nend\n",
+    },
     // with 0.420 for R1 there are settings, but they cost 0.14 * 1.5 s more
-    let issued = at_a_hairline(
-        &rt,
-        "dial_first = 140\ndial_step = 140\ndial_count = 3\n",
-        SECOND_FAULT,
-    )?;
-    let mut text = String::from_str(rt.alloc(), "hairline cost 900001 bound 689999 boxes 1\n")?;
-    text.push_str(HAIR)?;
-    ends(
-        &rt,
-        &issued,
-        "fault,relay,amps\nF1,R2,800\nF1,R1,800\nF2,R1,1000\n",
-        6,
-        text.as_str(),
-        "coord-sheet 1\nending hairline\ncost 900001\nbound 689999\nrelay R1 plug 1.00 dial 0.420\nrelay R2 plug 1.00 dial 0.140\nend\n",
-    )?;
-    Ok(())
-}
-
-/// The relay alone, with these lines behind its first plug.
-fn alone(rt: &(impl AllocGlobal + Abort), plugs: &'static str) -> Result<String, AllocError> {
-    let Some((before, after)) = ALONE.split_once("dial_first") else {
-        panic!(rt; "the relay has a dial");
-    };
-    Ok(format!(in rt.alloc(); "{before}{plugs}dial_first{after}")?)
-}
-
-#[test]
-fn the_first_box_leaves_pickups_out(rt: HostRuntime) -> Result<(), test::Fail> {
-    // 110 A is 1.10 times 1.00 A and less than 1.10 times 1.01 A, so one plug is left: 135 s times 0.050
-    ends(
-        &rt,
-        &alone(&rt, "plug_step = 1\nplug_count = 2\n")?,
-        "fault,relay,amps\nF1,R1,110\n",
-        0,
-        "closed cost 6750000 bound 6750000 boxes 1\n",
-        "coord-sheet 1\nending closed\ncost 6750000\nbound 6750000\nrelay R1 plug 1.00 dial 0.050\nend\n",
-    )?;
-    // a load of 500 A needs 600 A, and the pickup is 200 A at most
-    ends(
-        &rt,
-        &alone(&rt, "plug_step = 100\nplug_count = 2\nload_amps = 500\n")?,
-        "fault,relay,amps\nF1,R1,1000\n",
-        3,
-        "no settings boxes 1\n",
-        NO_SETTINGS,
-    )?;
-    Ok(())
-}
+    Ending {
+        network: NETWORK,
+        changes: &[
+            ("cti_ms = 300", "cti_ms = 270"),
+            (
+                "dial_first = 250\ndial_step = 50\ndial_count = 1\n",
+                "dial_first = 140\ndial_step = 140\ndial_count = 3\n",
+            ),
+            (
+                "dial_first = 50\ndial_step = 50\ndial_count = 1\n",
+                "dial_first = 140\ndial_step = 140\ndial_count = 2\n",
+            ),
+        ],
+        currents: "fault,relay,amps\nF1,R2,800\nF1,R1,800\nF2,R1,1000\n",
+        status: 6,
+        report: "hairline cost 900001 bound 689999 boxes 1
+row F1 R1 R2 loose 200 strict -220
+relay R1 plug 1.00 dial 0.280
+relay R2 plug 1.00 dial 0.140
+",
+        sheet: "coord-sheet 1
+ending hairline
+cost 900001
+bound 689999
+relay R1 plug 1.00 dial 0.420
+relay R2 plug 1.00 dial 0.140
+end
+",
+    },
+];
 
 #[test]
-fn a_table_of_another_form_says_the_same(rt: HostRuntime) -> Result<(), test::Fail> {
-    for currents in [
-        "fault,relay,amps\nF1,R2,1000\nF1,R1,1000\nF2,R1,1900\nF2,R2,0\n",
-        "\u{feff}fault,relay,amps\nF1,R2,1000\nF1,R1,1000\nF2,R1,1900\n",
-        "\"fault\",relay,amps\nF1,\"R2\",1000\n\"F1\",R1,\"1000\"\nF2,R1,001900\n",
-    ] {
-        ends(&rt, NETWORK, currents, 0, REPORT, SHEET)?;
+fn a_hairline_ends_with_and_without_settings(rt: HostRuntime) -> Result<(), test::Fail> {
+    Ok(end(&rt, &AT_HAIRLINES)?)
+}
+
+/// Dials of both relays from 0.050 to 1.000.
+const DIALS: [(&str, &str); 3] = [
+    ("dial_first = 250", "dial_first = 50"),
+    ("dial_count = 1\n", "dial_count = 20\n"),
+    ("dial_count = 1\n", "dial_count = 20\n"),
+];
+
+/// Asserts that the network of two relays in line ends so, with these dials, beside the changes.
+fn end_by_dials(rt: &(impl AllocGlobal + Abort), endings: &[Ending]) -> Result<(), AllocError> {
+    for ending in endings {
+        let dials = edited(rt, ending.network, &DIALS)?;
+        let network = edited(rt, dials.as_str(), ending.changes)?;
+        ends(
+            rt,
+            network.as_str(),
+            ending.currents,
+            ending.status,
+            ending.report,
+            ending.sheet,
+        )?;
     }
     Ok(())
 }
 
+const BY_LIMITS: [Ending; 5] = [
+    // R2 takes 0.1 s from dial 0.067 on, which is 0.100: 150 ms. R1 waits until 450 ms, at dial 0.300, which is 225 ms at F2.
+    Ending {
+        network: NETWORK,
+        changes: &[
+            ("format = 1", "format = 2"),
+            ("bus = \"B\"", "bus = \"B\"\nleast_ms = 100"),
+        ],
+        currents: CURRENTS,
+        status: 0,
+        report: "closed cost 375000 bound 375000 boxes 1\n",
+        sheet: "coord-sheet 1
+ending closed
+cost 375000
+bound 375000
+relay R1 plug 1.00 dial 0.300
+relay R2 plug 1.00 dial 0.100
+end
+",
+    },
+    // R1 needs 187.5 ms at F2
+    Ending {
+        network: NETWORK,
+        changes: &[
+            ("format = 1", "format = 2"),
+            ("bus = \"A\"", "bus = \"A\"\nmost_ms = 150"),
+        ],
+        currents: CURRENTS,
+        status: 3,
+        report: "no settings boxes 1\n",
+        sheet: NO_SETTINGS,
+    },
+    // 300 ms at F1 at dial 0.200 is 225 ms more than R2, and 150 ms at F2
+    Ending {
+        network: NETWORK,
+        changes: &[
+            ("format = 1", "format = 3"),
+            (
+                "[[fault]]",
+                "[[interval]]\nbackup = \"R1\"\nprimary = \"R2\"\ncti_ms = 225\n[[fault]]",
+            ),
+        ],
+        currents: CURRENTS,
+        status: 0,
+        report: "closed cost 225000 bound 225000 boxes 1\n",
+        sheet: "coord-sheet 1
+ending closed
+cost 225000
+bound 225000
+relay R1 plug 1.00 dial 0.200
+relay R2 plug 1.00 dial 0.050
+end
+",
+    },
+    // all three: 150 ms of R2, 225 ms more of R1 at dial 0.250, and 187.5 ms at F2, within 188
+    Ending {
+        network: NETWORK,
+        changes: &[
+            ("format = 1", "format = 3"),
+            ("bus = \"A\"", "bus = \"A\"\nmost_ms = 188"),
+            ("bus = \"B\"", "bus = \"B\"\nleast_ms = 100"),
+            (
+                "[[fault]]",
+                "[[interval]]\nbackup = \"R1\"\nprimary = \"R2\"\ncti_ms = 225\n[[fault]]",
+            ),
+        ],
+        currents: CURRENTS,
+        status: 0,
+        report: "closed cost 337500 bound 337500 boxes 1\n",
+        sheet: "coord-sheet 1
+ending closed
+cost 337500
+bound 337500
+relay R1 plug 1.00 dial 0.250
+relay R2 plug 1.00 dial 0.100
+end
+",
+    },
+    // and not within 187
+    Ending {
+        network: NETWORK,
+        changes: &[
+            ("format = 1", "format = 3"),
+            ("bus = \"A\"", "bus = \"A\"\nmost_ms = 187"),
+            ("bus = \"B\"", "bus = \"B\"\nleast_ms = 100"),
+            (
+                "[[fault]]",
+                "[[interval]]\nbackup = \"R1\"\nprimary = \"R2\"\ncti_ms = 225\n[[fault]]",
+            ),
+        ],
+        currents: CURRENTS,
+        status: 3,
+        report: "no settings boxes 1\n",
+        sheet: NO_SETTINGS,
+    },
+];
+
 #[test]
-fn files_of_the_disk_are_read_and_written(rt: HostRuntime) -> Result<(), test::Fail> {
-    let names = ["solve", "coord_run_n", "coord_run_t", "coord_run_s"];
-    for (name, text) in [("coord_run_n", NETWORK), ("coord_run_t", CURRENTS)] {
-        fs::write(&rt, name, text)?;
-    }
-    let mut folder = DiskFolder::new(&rt);
-    let (status, out) = call(&rt, &names, &mut folder, Vec::new(rt.alloc()))?;
-    let sheet = read_whole(rt.alloc(), &mut folder, "coord_run_s", 1_000)?;
-    for name in ["coord_run_n", "coord_run_t", "coord_run_s"] {
-        fs::remove_file(&rt, name)?;
-    }
-    assert_eq!(rt; out.bytes(), REPORT.as_bytes());
-    assert_eq!(rt; status, 0);
-    assert_eq!(rt; sheet.as_slice(), SHEET.as_bytes());
-    Ok(())
+fn times_and_intervals_of_their_own_are_kept(rt: HostRuntime) -> Result<(), test::Fail> {
+    Ok(end_by_dials(&rt, &BY_LIMITS)?)
+}
+
+// 270 ms is 0.140 times 13.5/7 s, the time at 8 times pickup, which is no whole number of nanoseconds.
+const AT_A_LEAST_TIME: [Ending; 1] = [Ending {
+    network: ALONE,
+    changes: &[
+        ("format = 1", "format = 2"),
+        ("dial_first = 50", "dial_first = 140\nleast_ms = 270"),
+    ],
+    currents: "fault,relay,amps\nF1,R1,800\n",
+    status: 7,
+    report: "hairline cost none bound 269999 boxes 1
+least F1 R1 loose 60 strict -80
+relay R1 plug 1.00 dial 0.140
+",
+    sheet: "coord-sheet 1\nending hairline\ncost none\nbound 269999\nend\n",
+}];
+
+#[test]
+fn a_hairline_of_a_least_time_is_named(rt: HostRuntime) -> Result<(), test::Fail> {
+    Ok(end(&rt, &AT_A_LEAST_TIME)?)
+}
+
+/// The curve B of R1, or of both relays, as one of its own constants.
+const CURVE_B: &str = "\"custom\"\ncustom_k = 135000\ncustom_c = 0\ncustom_j = 1\ncustom_h = 1";
+
+const BY_CONSTANTS: [Ending; 3] = [
+    Ending {
+        network: NETWORK,
+        changes: &[
+            ("format = 1", "format = 4"),
+            ("\"iec-b\"", CURVE_B),
+            ("\"iec-b\"", CURVE_B),
+        ],
+        currents: CURRENTS,
+        status: 0,
+        report: REPORT,
+        sheet: SHEET,
+    },
+    // 54.9755/9 s at F1: 305 ms at dial 0.050 is too soon, so R1 stands at 0.100. At F2 it takes 305.4194.. ms, beside a
+    // curve B of IEC.
+    Ending {
+        network: NETWORK,
+        changes: &[
+            ("format = 1", "format = 4"),
+            (
+                "\"iec-b\"",
+                "\"custom\"\ncustom_k = 549755\ncustom_c = 0\ncustom_j = 1\ncustom_h = 1",
+            ),
+        ],
+        currents: CURRENTS,
+        status: 0,
+        report: "closed cost 380420 bound 380419 boxes 1\n",
+        sheet: "coord-sheet 1
+ending closed
+cost 380420
+bound 380419
+relay R1 plug 1.00 dial 0.100
+relay R2 plug 1.00 dial 0.050
+end
+",
+    },
+    // 1/(4^(1/2) - 1) + 0.5 s: 1.5 s at 4 times pickup, so that R1 waits until 375 ms at F1, and F2 costs 375 ms
+    Ending {
+        network: NETWORK,
+        changes: &[
+            ("format = 1", "format = 4"),
+            (
+                "\"iec-b\"",
+                "\"custom\"\ncustom_k = 10000\ncustom_c = 5000\ncustom_j = 1\ncustom_h = 2",
+            ),
+        ],
+        currents: "fault,relay,amps\nF1,R2,1000\nF1,R1,400\nF2,R1,400\n",
+        status: 0,
+        report: "closed cost 450000 bound 450000 boxes 1\n",
+        sheet: "coord-sheet 1
+ending closed
+cost 450000
+bound 450000
+relay R1 plug 1.00 dial 0.250
+relay R2 plug 1.00 dial 0.050
+end
+",
+    },
+];
+
+#[test]
+fn curves_with_constants_of_their_own_end_beside_named_ones(
+    rt: HostRuntime,
+) -> Result<(), test::Fail> {
+    Ok(end_by_dials(&rt, &BY_CONSTANTS)?)
 }

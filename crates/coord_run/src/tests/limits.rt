@@ -1,5 +1,3 @@
-use super::endings::ends;
-use super::refusals::refuses;
 use super::*;
 
 /// What a relay has beside its names.
@@ -91,18 +89,75 @@ fn push_others(
 }
 
 #[test]
+fn files_and_quantities_past_their_limit_are_refused(rt: HostRuntime) -> Result<(), test::Fail> {
+    let mut long = String::from_str(rt.alloc(), NETWORK)?;
+    for _ in NETWORK.len()..4_194_305 {
+        long.push_str("#")?;
+    }
+    let text = long.as_str();
+    let files = [("n", NETWORK), ("t", CURRENTS), ("l", text)];
+    answers(
+        &rt,
+        &["solve", "l", "t", "s"],
+        &files,
+        None,
+        12,
+        "too long: l 4194304\n",
+        &[],
+    )?;
+    answers(
+        &rt,
+        &["solve", "n", "l", "s"],
+        &files,
+        None,
+        12,
+        "too long: l 4194304\n",
+        &[],
+    )?;
+    answers(
+        &rt,
+        &["margins", "n", "t", "l"],
+        &files,
+        None,
+        12,
+        "too long: l 4194304\n",
+        &[],
+    )?;
+    Ok(())
+}
+
+// 96 entries at each fault: 8,448
+#[test]
 fn currents_past_their_limit_are_refused(rt: HostRuntime) -> Result<(), test::Fail> {
-    let network = star(&rt)?;
-    // 96 entries at each fault: 8,448
     let mut entries = String::from_str(rt.alloc(), "fault,relay,amps\n")?;
     for i in 1..FAULTS + 1 {
         for j in 1..LINES + 1 {
-            let both = format!(in rt.alloc(); "Z{i},H{j},200\nZ{i},W{j},200\n")?;
-            entries.push_str(&both)?;
+            push_both(&rt, &mut entries, i, j)?;
         }
     }
-    refuses(&rt, &network, &entries, 15, "too many: currents 8192\n")?;
+    let network = star(&rt)?;
+    let files = [("n", network.as_str()), ("t", entries.as_str())];
+    answers(
+        &rt,
+        &SOLVE,
+        &files,
+        None,
+        15,
+        "too many: currents 8192\n",
+        &[],
+    )?;
     Ok(())
+}
+
+/// Adds the currents at a fault of both relays of a line.
+fn push_both(
+    rt: &impl AllocGlobal,
+    text: &mut String,
+    fault: u32,
+    line: u32,
+) -> Result<(), AllocError> {
+    let both = format!(in rt.alloc(); "Z{fault},H{line},200\nZ{fault},W{line},200\n")?;
+    text.push_str(&both)
 }
 
 // At 20 and 2 times pickup the times at dial 1 are 80/399 and 80/3 s: 88 faults of weight 1,000 at dial 15 cost the upper
@@ -111,6 +166,29 @@ fn currents_past_their_limit_are_refused(rt: HostRuntime) -> Result<(), test::Fa
 #[test]
 fn as_many_rows_as_may_be_are_coordinated(rt: HostRuntime) -> Result<(), test::Fail> {
     let network = star(&rt)?;
+    let sheet = star_sheet(&rt)?;
+    let currents = star_currents(&rt, 7)?;
+    let files = [("n", network.as_str()), ("t", currents.as_str())];
+    let after = [("s", sheet.as_str())];
+    let text = "closed cost 35464661655720 bound 35464661653080 boxes 1\n";
+    answers(&rt, &SOLVE, &files, None, 0, text, &after)?;
+    let currents = star_currents(&rt, 8)?;
+    let files = [("n", network.as_str()), ("t", currents.as_str())];
+    answers(&rt, &SOLVE, &files, None, 15, "too many: rows 4096\n", &[])?;
+    answers(
+        &rt,
+        &MARGINS,
+        &files,
+        None,
+        15,
+        "too many: rows 4096\n",
+        &[],
+    )?;
+    Ok(())
+}
+
+/// The sheet of the star.
+fn star_sheet(rt: &impl AllocGlobal) -> Result<String, AllocError> {
     let mut sheet = String::from_str(
         rt.alloc(),
         "coord-sheet 1\nending closed\ncost 35464661655720\nbound 35464661653080\n",
@@ -122,23 +200,5 @@ fn as_many_rows_as_may_be_are_coordinated(rt: HostRuntime) -> Result<(), test::F
         sheet.push_str(&both)?;
     }
     sheet.push_str("end\n")?;
-    ends(
-        &rt,
-        &network,
-        &star_currents(&rt, 7)?,
-        0,
-        "closed cost 35464661655720 bound 35464661653080 boxes 1\n",
-        &sheet,
-    )?;
-    let currents = star_currents(&rt, 8)?;
-    refuses(&rt, &network, &currents, 15, "too many: rows 4096\n")?;
-    let mut folder = inputs(&rt, &network, &currents, Vec::new(rt.alloc()))?;
-    answers(
-        &rt,
-        &["margins", "n", "t", "s"],
-        &mut folder,
-        15,
-        "too many: rows 4096\n",
-    )?;
-    Ok(())
+    Ok(sheet)
 }

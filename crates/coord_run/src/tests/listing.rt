@@ -26,10 +26,10 @@ const RELAYS: [(&str, &str, &str); 5] = [
     ("S", "BC", "B"),
 ];
 
-/// The network of the parallel lines, and what stands behind it.
-fn parallel(rt: &(impl AllocGlobal + Abort), more: &'static str) -> Result<String, AllocError> {
+/// The network of the parallel lines, and what follows it.
+fn parallel(rt: &(impl AllocGlobal + Abort), more: &str) -> Result<String, AllocError> {
     let mut text = String::from_str(rt.alloc(), PARALLEL)?;
-    for (name, line, bus) in RELAYS {
+    for (name, line, bus) in &RELAYS {
         text.push_str("[[relay]]\nname = \"")?;
         text.push_str(name)?;
         text.push_str("\"\nline = \"")?;
@@ -46,13 +46,25 @@ fn parallel(rt: &(impl AllocGlobal + Abort), more: &'static str) -> Result<Strin
 
 #[test]
 fn pairs_are_listed_by_primary(rt: HostRuntime) -> Result<(), test::Fail> {
-    let network = parallel(&rt, "")?;
-    let mut folder = folder_of(&rt, &[("n", network.as_str())], Vec::new(rt.alloc()))?;
-    answers(
-        &rt,
-        &["pairs", "n"],
-        &mut folder,
-        0,
+    for (more, text) in &LISTS {
+        let network = parallel(&rt, more)?;
+        answers(
+            &rt,
+            &["pairs", "n"],
+            &[("n", network.as_str())],
+            None,
+            0,
+            text,
+            &[],
+        )?;
+    }
+    Ok(())
+}
+
+/// What follows the network, and its pairs.
+const LISTS: [(&str, &str); 2] = [
+    (
+        "",
         "primary P1 backup Q2
 primary Q1 backup P2
 primary P2 backup Q1
@@ -61,16 +73,9 @@ primary S backup P1
 primary S backup P2
 pairs 6
 ",
-    )?;
-    holds(&rt, &folder, "n", network.as_str());
-
-    let network = parallel(&rt, "[[exempt]]\nbackup = \"P1\"\nprimary = \"S\"\n")?;
-    let mut folder = folder_of(&rt, &[("n", network.as_str())], Vec::new(rt.alloc()))?;
-    answers(
-        &rt,
-        &["pairs", "n"],
-        &mut folder,
-        0,
+    ),
+    (
+        "[[exempt]]\nbackup = \"P1\"\nprimary = \"S\"\n",
         "primary P1 backup Q2
 primary Q1 backup P2
 primary P2 backup Q1
@@ -78,20 +83,5 @@ primary Q2 backup P1
 primary S backup P2
 pairs 5
 ",
-    )?;
-    Ok(())
-}
-
-#[test]
-fn a_refused_network_has_no_pairs(rt: HostRuntime) -> Result<(), test::Fail> {
-    let mut folder = folder_of(&rt, &[("n", "")], Vec::new(rt.alloc()))?;
-    answers(&rt, &["pairs", "m"], &mut folder, 9, "missing: m\n")?;
-    answers(
-        &rt,
-        &["pairs", "n"],
-        &mut folder,
-        13,
-        "network: missing top 0 format\n",
-    )?;
-    Ok(())
-}
+    ),
+];

@@ -1,118 +1,274 @@
 use super::*;
+use coord_io::{DiskFolder, read_whole};
+use std::fs;
 
-/// Asserts that the call is refused by this status and text, and leaves the files as they were.
-pub fn refuses(
-    rt: &(impl AllocGlobal + Abort),
-    network: &str,
-    currents: &str,
+/// A call over the network n and the table t, what it answers, and a file afterwards.
+struct Refused {
+    words: &'static [&'static str],
+    planned: Planned,
     status: u8,
-    text: &str,
-) -> Result<(), AllocError> {
-    let mut folder = inputs(rt, network, currents, Vec::new(rt.alloc()))?;
-    answers(rt, &SOLVE, &mut folder, status, text)?;
-    holds(rt, &folder, "n", network);
-    holds(rt, &folder, "t", currents);
-    holds(rt, &folder, "s", OLD_SHEET);
+    text: &'static str,
+    after: &'static [(&'static str, &'static str)],
+}
+
+const REFUSED: [Refused; 13] = [
+    Refused {
+        words: &["solve", "m", "t", "s"],
+        planned: None,
+        status: 9,
+        text: "missing: m\n",
+        after: &[("s", OLD_SHEET)],
+    },
+    Refused {
+        words: &["solve", "n", "m", "s"],
+        planned: None,
+        status: 9,
+        text: "missing: m\n",
+        after: &[("s", OLD_SHEET)],
+    },
+    Refused {
+        words: &["margins", "n", "t", "m"],
+        planned: None,
+        status: 9,
+        text: "missing: m\n",
+        after: &[],
+    },
+    Refused {
+        words: &["pairs", "m"],
+        planned: None,
+        status: 9,
+        text: "missing: m\n",
+        after: &[],
+    },
+    Refused {
+        words: &SOLVE,
+        planned: Some((CallKind::ReadAt, "n", 1)),
+        status: 10,
+        text: "read fault: n\n",
+        after: &[("s", OLD_SHEET)],
+    },
+    // the call that would find the end
+    Refused {
+        words: &SOLVE,
+        planned: Some((CallKind::ReadAt, "n", 2)),
+        status: 10,
+        text: "read fault: n\n",
+        after: &[("s", OLD_SHEET)],
+    },
+    Refused {
+        words: &SOLVE,
+        planned: Some((CallKind::ReadAt, "t", 1)),
+        status: 10,
+        text: "read fault: t\n",
+        after: &[("s", OLD_SHEET)],
+    },
+    Refused {
+        words: &MARGINS,
+        planned: Some((CallKind::ReadAt, "s", 1)),
+        status: 10,
+        text: "read fault: s\n",
+        after: &[("s", OLD_SHEET)],
+    },
+    Refused {
+        words: &SOLVE,
+        planned: Some((CallKind::Start, "s", 1)),
+        status: 11,
+        text: "write fault: s\n",
+        after: &[("s", OLD_SHEET)],
+    },
+    Refused {
+        words: &SOLVE,
+        planned: Some((CallKind::Append, "s", 1)),
+        status: 11,
+        text: "write fault: s\n",
+        after: &[("s", "")],
+    },
+    // a name after `--` is that of a file
+    Refused {
+        words: &["solve", "n", "t", "--", "-s"],
+        planned: None,
+        status: 0,
+        text: REPORT,
+        after: &[("-s", SHEET), ("s", OLD_SHEET)],
+    },
+    Refused {
+        words: &["solve", "n", "t", "-"],
+        planned: None,
+        status: 0,
+        text: REPORT,
+        after: &[("-", SHEET)],
+    },
+    Refused {
+        words: &["solve", "n", "t", "t"],
+        planned: None,
+        status: 2,
+        text: "usage: coord solve NETWORK CURRENTS SHEET, pairs NETWORK, margins NETWORK CURRENTS SHEET\n",
+        after: &[("t", CURRENTS)],
+    },
+];
+
+#[test]
+fn each_call_answers_by_its_words_and_files(rt: HostRuntime) -> Result<(), test::Fail> {
+    let files = [("n", NETWORK), ("t", CURRENTS), ("s", OLD_SHEET)];
+    for case in &REFUSED {
+        answers(
+            &rt,
+            case.words,
+            &files,
+            case.planned,
+            case.status,
+            case.text,
+            case.after,
+        )?;
+    }
+    Ok(())
+}
+
+/// Format 3 with a pair that is named twice.
+const TWICE_NAMED: &str = "format = 3
+interval = [
+    { backup = \"R1\", primary = \"R2\", cti_ms = 225 },
+    { backup = \"R1\", primary = \"R2\", cti_ms = 225 },
+]";
+
+/// The network and the table with a part of each replaced, and how `solve` refuses them.
+const FAULTY: [((&str, &str), (&str, &str), u8, &str); 12] = [
+    (
+        ("\"R2\"", "\"R1\""),
+        ("", ""),
+        13,
+        "network: double-name relay 2 name\n",
+    ),
+    (
+        ("load_amps = 0", "amps = 0"),
+        ("", ""),
+        13,
+        "network: unknown-key relay 1\n",
+    ),
+    // a key of format 2, and a pair that is named twice
+    (
+        ("load_amps = 0", "least_ms = 100"),
+        ("", ""),
+        13,
+        "network: unknown-key relay 1\n",
+    ),
+    (
+        ("format = 1", TWICE_NAMED),
+        ("", ""),
+        13,
+        "network: double-name interval 2 primary\n",
+    ),
+    (
+        ("plug_count = 1", "plug_count = 2"),
+        ("", ""),
+        21,
+        "not built: pickups\n",
+    ),
+    (("", ""), ("amps", "amp"), 14, "currents: bad-header\n"),
+    (("", ""), ("R2,1000", "R2"), 14, "currents: bad-record 1\n"),
+    (("", ""), ("F2", "F3"), 14, "currents: unknown-fault 3\n"),
+    (
+        ("", ""),
+        ("F1,R1", "F1,R3"),
+        14,
+        "currents: unknown-relay 2\n",
+    ),
+    (
+        ("", ""),
+        ("F1,R1,1000", "F1,R1,abc"),
+        14,
+        "currents: bad-amps 2\n",
+    ),
+    (
+        ("", ""),
+        ("F2,R1,1900", "F1,R2,1000"),
+        14,
+        "currents: double-entry 3\n",
+    ),
+    (
+        ("", ""),
+        ("F2,R1,1900\n", ""),
+        14,
+        "currents: no-primary F2\n",
+    ),
+];
+
+#[test]
+fn inputs_are_refused_for_their_first_fault(rt: HostRuntime) -> Result<(), test::Fail> {
+    for (in_network, in_table, status, text) in &FAULTY {
+        let network = edited(&rt, NETWORK, &[*in_network])?;
+        let table = edited(&rt, CURRENTS, &[*in_table])?;
+        let files = [
+            ("n", network.as_str()),
+            ("t", table.as_str()),
+            ("s", OLD_SHEET),
+        ];
+        answers(
+            &rt,
+            &SOLVE,
+            &files,
+            None,
+            *status,
+            text,
+            &[("s", OLD_SHEET)],
+        )?;
+    }
+    Ok(())
+}
+
+/// 54.9756/0.05 s is the first time of 2^40 ns or more.
+#[test]
+fn constants_that_take_too_long_are_refused(rt: HostRuntime) -> Result<(), test::Fail> {
+    let network = edited(
+        &rt,
+        NETWORK,
+        &[
+            ("format = 1", "format = 4"),
+            (
+                "\"iec-b\"",
+                "\"custom\"\ncustom_k = 549756\ncustom_c = 0\ncustom_j = 1\ncustom_h = 1",
+            ),
+        ],
+    )?;
+    let files = [("n", network.as_str()), ("t", CURRENTS), ("s", OLD_SHEET)];
+    let text = "network: out-of-range relay 1 custom_k\n";
+    Ok(answers(&rt, &SOLVE, &files, None, 13, text, &[("s", OLD_SHEET)])?)
+}
+
+#[test]
+fn a_sink_that_fails_leaves_the_sheet_whole(rt: HostRuntime) -> Result<(), test::Fail> {
+    let alloc = rt.alloc();
+    let mut words = Vec::new(alloc);
+    for word in &SOLVE {
+        words.push(String::from_str(alloc, word)?)?;
+    }
+    let mut folder = folder_of(&rt, &[("n", NETWORK), ("t", CURRENTS)], None)?;
+    let mut out = MemSink::new(alloc, vec![in alloc; 1]?);
+    assert_eq!(rt; run(alloc, words.as_slice(), &mut folder, &mut out), 11);
+    assert!(rt; out.bytes().is_empty());
+    assert_eq!(rt; folder.bytes("s"), Some(SHEET.as_bytes()));
     Ok(())
 }
 
 #[test]
-fn a_missing_file_is_named(rt: HostRuntime) -> Result<(), test::Fail> {
-    for (there, text, line) in [
-        ("t", CURRENTS, "missing: n\n"),
-        ("n", NETWORK, "missing: t\n"),
-    ] {
-        let mut folder = folder_of(&rt, &[(there, text)], Vec::new(rt.alloc()))?;
-        answers(&rt, &SOLVE, &mut folder, 9, line)?;
-        assert!(rt; folder.bytes("s").is_none());
+fn files_of_the_disk_are_read_and_written(rt: HostRuntime) -> Result<(), test::Fail> {
+    let alloc = rt.alloc();
+    let mut words = Vec::new(alloc);
+    for word in &["solve", "coord_run_n", "coord_run_t", "coord_run_s"] {
+        words.push(String::from_str(alloc, word)?)?;
     }
-    Ok(())
-}
-
-#[test]
-fn a_network_is_refused_for_its_first_fault(rt: HostRuntime) -> Result<(), test::Fail> {
-    refuses(&rt, "", CURRENTS, 13, "network: missing top 0 format\n")?;
-    let Some((cut, _)) = NETWORK.split_once("AB") else {
-        panic!(rt; "a line is named AB");
-    };
-    refuses(&rt, cut, CURRENTS, 13, "network: not-toml\n")?;
-
-    let cases: [(&[(&str, &str)], u8, &str); 3] = [
-        (
-            &[("\"R2\"", "\"R1\"")],
-            13,
-            "network: double-name relay 2 name\n",
-        ),
-        (
-            &[("load_amps = 0", "amps = 0")],
-            13,
-            "network: unknown-key relay 1\n",
-        ),
-        (
-            &[("plug_count = 1", "plug_count = 2")],
-            21,
-            "not built: pickups\n",
-        ),
-    ];
-    for (changes, status, line) in cases {
-        let network = changed(&rt, changes)?;
-        refuses(&rt, &network, CURRENTS, status, line)?;
+    for (name, text) in &[("coord_run_n", NETWORK), ("coord_run_t", CURRENTS)] {
+        fs::write(&rt, *name, *text)?;
     }
-    Ok(())
-}
-
-#[test]
-fn what_is_too_much_is_refused(rt: HostRuntime) -> Result<(), test::Fail> {
-    let mut lines = String::from_str(rt.alloc(), "format = 1\nline = [")?;
-    for _ in 0..65 {
-        lines.push_str("0, ")?;
+    let mut folder = DiskFolder::new(&rt);
+    let mut out = MemSink::new(alloc, Vec::new(alloc));
+    let status = run(alloc, words.as_slice(), &mut folder, &mut out);
+    let sheet = read_whole(alloc, &mut folder, "coord_run_s", 1_000)?;
+    for name in &["coord_run_n", "coord_run_t", "coord_run_s"] {
+        fs::remove_file(&rt, *name)?;
     }
-    lines.push_str("]\n[study]\ncti_ms = 300\n")?;
-    refuses(&rt, &lines, CURRENTS, 15, "too many: lines 64\n")?;
-
-    let mut long = String::from_str(rt.alloc(), NETWORK)?;
-    for _ in NETWORK.len()..4_194_305 {
-        long.push_str("#")?;
-    }
-    refuses(&rt, &long, CURRENTS, 12, "too long: n 4194304\n")?;
-    refuses(&rt, NETWORK, &long, 12, "too long: t 4194304\n")?;
-    Ok(())
-}
-
-#[test]
-fn a_table_is_refused_for_its_first_fault(rt: HostRuntime) -> Result<(), test::Fail> {
-    for (currents, line) in [
-        ("", "currents: bad-header\n"),
-        (
-            "fault,relay,amp\nF1,R2,1000\nF1,R1,1000\nF2,R1,1900\n",
-            "currents: bad-header\n",
-        ),
-        (
-            "fault,relay,amps\nF1,R2\nF1,R1,1000\nF2,R1,1900\n",
-            "currents: bad-record 1\n",
-        ),
-        (
-            "fault,relay,amps\nF1,R2,1000\nF1,R1,1000\nF3,R1,1900\n",
-            "currents: unknown-fault 3\n",
-        ),
-        (
-            "fault,relay,amps\nF1,R2,1000\nF1,R3,1000\nF2,R1,1900\n",
-            "currents: unknown-relay 2\n",
-        ),
-        (
-            "fault,relay,amps\nF1,R2,1000\nF1,R1,abc\nF2,R1,1900\n",
-            "currents: bad-amps 2\n",
-        ),
-        (
-            "fault,relay,amps\nF1,R2,1000\nF1,R1,1000\nF2,R1,1900\nF1,R2,1000\n",
-            "currents: double-entry 4\n",
-        ),
-        (
-            "fault,relay,amps\nF1,R2,1000\nF1,R1,1000\n",
-            "currents: no-primary F2\n",
-        ),
-    ] {
-        refuses(&rt, NETWORK, currents, 14, line)?;
-    }
+    assert_eq!(rt; out.bytes(), REPORT.as_bytes());
+    assert_eq!(rt; status, 0);
+    assert_eq!(rt; sheet.as_slice(), SHEET.as_bytes());
     Ok(())
 }

@@ -3,7 +3,8 @@ use Rattle.std.proofs.Common.{arith, refl}
 use Rattle.std.specs.Option.{option_map}
 use Rattle.coord_model.specs.Choice.{choice_data}
 use Rattle.coord_run.specs.Outcome.{issued_data}
-use Rattle.coord_run.proofs.TightLaws.{beside, bound_below_all, lowest_first, lowest_is_least, lowest_loosely, strict_is_allowed}
+use Rattle.coord_run.proofs.TightLaws.{beside, bound_below_all, lowest_first, lowest_is_least, lowest_loosely, hair_near}
+use Rattle.margin_rows.proofs.Boxed.{strict_allowed}
 use Rattle.margin_rows.specs.Case.{rows_in}
 use Rattle.margin_rows.specs.Margin.{MeetsStrictly}
 use Rattle.coord_run.proofs.decide.judge.Goals as goal
@@ -28,6 +29,7 @@ weigh-requires-clause-undecided c =
         first_box = lowest_first case lowest c.requires.tight;
         loosely = lowest_loosely case fits c.requires.one lowest c.requires.tight;
         first_unmet = c.in-Some.ensures.unmet;
+        near = hair_near case fits lowest c.requires.tight c.in-Some.row c.in-Some.ensures.unmet.is_row;
         bound_is = c.lower_cost-bound.ensures.exact;
         below_all = bound_below_all case fits c.requires.one lowest c.requires.tight c.lower_cost-bound.result c.lower_cost-bound.ensures.at_least;
       };
@@ -46,7 +48,7 @@ returns-in-None-clause-decided c =
     let met : All (MeetsStrictly case lowest) (rows_in case) = c.first_unmet.ensures.met (rw c.in-None.is refl) in
     record {
       is_issued = record {
-        allowed = strict_is_allowed case lowest fits inside met;
+        allowed = strict_allowed case lowest fits inside met;
         least = lowest_is_least case fits c.requires.one lowest c.requires.tight met;
         cost_is = c.cost-cost.ensures.exact;
         at_most = c.cost-cost.ensures.at_most;

@@ -1,10 +1,17 @@
-use Rattle.std.proofs.Common.{ap, Err}
-use Rattle.coord_run.specs.Outside.{folder_at}
+use Rattle.std.proofs.Common.{ap, inl, inr, refl, Err}
 use Rattle.coord_run.proofs.ReadingLaws.{absent_of}
 use Rattle.coord_run.proofs.inputs.read_file.Goals as goal
 
 pub returns-in-Err-Missing-clause-stopped : goal.returns-in-Err-Missing-clause-stopped
 returns-in-Err-Missing-clause-stopped g c =
-    let before = folder_at g.F.Folder.files g.F.Folder.read_faults g.F.Folder.write_faults c.args.folder.now in
-    let after = folder_at g.F.Folder.files g.F.Folder.read_faults g.F.Folder.write_faults c.read_whole.new.folder in
-    absent_of before after c.args.name.now (c.in-Err-Missing.ensures.missing (ap Err c.in-Err-Missing.field-0-is))
+    let before = g.F.Folder.state c.args.folder.now in
+    let after = g.F.Folder.state c.read_whole.new.folder in
+    inl (refl, absent_of before after c.args.name.now (c.in-Err-Missing.ensures.missing (ap Err c.in-Err-Missing.field-0-is)))
+
+pub returns-in-Err-Failed-clause-stopped : goal.returns-in-Err-Failed-clause-stopped
+returns-in-Err-Failed-clause-stopped g c = inr (inl (refl, c.in-Err-Failed.ensures.failed (ap Err c.in-Err-Failed.field-0-is)))
+
+pub returns-in-Err-TooLong-clause-stopped : goal.returns-in-Err-TooLong-clause-stopped
+returns-in-Err-TooLong-clause-stopped g c =
+    let long = c.in-Err-TooLong.ensures.too_long _ (ap Err c.in-Err-TooLong.field-0-is) in
+    inr (inr (refl, long.1))

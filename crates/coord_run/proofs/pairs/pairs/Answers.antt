@@ -1,26 +1,16 @@
-use Rattle.coord_run.specs.Outside.{folder_at, sink_at}
-use Rattle.coord_run.specs.Pairs.{IsPairsReport}
-use Rattle.coord_run.specs.Reading.{NetworkCause}
-use Rattle.coord_run.specs.Refusal.{network_refusal_text, network_status}
-use Rattle.coord_run.proofs.ReportLaws.{refuses, reports}
+use Rattle.coord_run.specs.Causes.{NetworkCause}
+use Rattle.coord_run.specs.Pairs.{IsPairsOutput}
+use Rattle.coord_run.specs.Words.{only}
+use Rattle.coord_run.proofs.EndLaws.{ends}
+use Rattle.coord_run.proofs.MovingLaws.{pairs_moves}
 use Rattle.coord_run.proofs.pairs.pairs.Goals as goal
 
-pub returns-in-Ok : goal.returns-in-Ok
-returns-in-Ok g c =
-    let before = folder_at g.F.Folder.files g.F.Folder.read_faults g.F.Folder.write_faults c.args.folder.now in
-    let after = folder_at g.F.Folder.files g.F.Folder.read_faults g.F.Folder.write_faults c.report.new.folder in
-    let name = c.args.network.now in
-    reports (NetworkCause before after name) (IsPairsReport before after name) (network_refusal_text name) network_status before after
-    (sink_at g.K.Sink.written g.K.Sink.faults c.args.out.now) (sink_at g.K.Sink.written g.K.Sink.faults c.print.new.out) c.print.result
-    c.in-Ok.text.items c.in-Ok.ensures.alone c.in-Ok.ensures.report (rw (← c.as_slice.ensures.value) c.print.ensures)
-
-pub returns-in-Err-Refused : goal.returns-in-Err-Refused
-returns-in-Err-Refused g c =
-    let before = folder_at g.F.Folder.files g.F.Folder.read_faults g.F.Folder.write_faults c.args.folder.now in
-    let after = folder_at g.F.Folder.files g.F.Folder.read_faults g.F.Folder.write_faults c.report.new.folder in
-    let name = c.args.network.now in
-    let why = rw c.in-Err-Refused.field-0-is at c.in-Err-Refused.ensures.stopped in
-    refuses (NetworkCause before after name) (IsPairsReport before after name) (network_refusal_text name) network_status before after
-    (sink_at g.K.Sink.written g.K.Sink.faults c.args.out.now) (sink_at g.K.Sink.written g.K.Sink.faults c.refuse.new.out) c.refuse.result
-    (λ text. text.items) c.in-Err-Refused.refusal c.network_refusal_line-line.result c.in-Err-Refused.ensures.alone why c.network_refusal_line-line.ensures
-    (rw (← c.network_status.ensures) c.refuse.ensures.line) c.refuse.ensures.memory
+pub returns : goal.returns
+returns g c =
+    let before = g.F.Folder.state c.args.folder.now in
+    let between = g.F.Folder.state c.work-work.new.folder in
+    let after = g.F.Folder.state c.hand_over.new.folder in
+    let names = only c.args.network.now in
+    ends names (λ after. NetworkCause before after c.args.network.now) (λ after. IsPairsOutput before after c.args.network.now) before between after
+    (g.K.Sink.state c.args.out.now) (g.K.Sink.state c.hand_over.new.out) c.hand_over.result (pairs_moves c.args.network.now before between after)
+    c.work-work.result c.work-work.ensures.alone c.work-work.ensures.report c.work-work.ensures.stopped (rw c.only.ensures at c.hand_over.ensures)

@@ -1,0 +1,88 @@
+//! The whole call of the program.
+ghost use Rattle.std.specs.Prelude.{◌≡◌, Some, map, string_bytes};
+ghost use Rattle.coord_run.specs.Names.{command_data, names_data};
+ghost use Rattle.coord_run.specs.Headline.{Headline};
+ghost use Rattle.coord_run.specs.Printing.{Prints};
+ghost use Rattle.coord_run.specs.Program.{Does, usage_text};
+ghost use Rattle.coord_run.specs.Words.{FileNames, command_of, solve};
+
+use crate::margins::margins;
+use crate::pairs::pairs;
+use crate::printing::print;
+use crate::solve::solve;
+use crate::status::{NO_MEMORY, USAGE};
+use crate::words::{Command, Names, WordsRefusal, read_words};
+use coord_io::{Folder, Sink};
+use std::alloc::Global;
+
+/// The line for words that fit no command.
+const USAGE_LINE: &[u8] =
+    b"usage: coord solve NETWORK CURRENTS SHEET, pairs NETWORK, margins NETWORK CURRENTS SHEET\n";
+
+/// Does what the words after the program's name ask for, and answers the status.
+///
+/// `solve NETWORK CURRENTS SHEET` reads the network and the table of its fault currents, and writes the settings
+/// sheet. Its ending or its refusal is printed on the sink. `pairs NETWORK` reads the network and prints its pairs.
+/// `margins NETWORK CURRENTS SHEET` reads the three files and prints each row with its margins.
+pub fn run<F: Folder, K: Sink>(alloc: Global, words: &[String], folder: &mut F, out: &mut K) -> u8
+    ensures does { Does (command_of (map string_bytes words.now)) (F.state folder.old) (F.state folder.new) (K.state out.old) (K.state out.new) result }
+    ensures headline { (names : FileNames) → command_of (map string_bytes words.now) ≡ Some (solve names) →
+        Headline names (F.state folder.old) (F.state folder.new) (K.state out.old) (K.state out.new) result }
+{
+    obey(alloc, words, folder, out)
+}
+
+/// Does what the words ask for.
+fn obey<F: Folder, K: Sink>(alloc: Global, words: &[String], folder: &mut F, out: &mut K) -> u8
+    ensures { Does (command_of (map string_bytes words.now)) (F.state folder.old) (F.state folder.new)
+        (K.state out.old) (K.state out.new) result }
+{
+    match read_words(alloc, words) {
+        Ok(command) => carry_out(alloc, &command, folder, out),
+        Err(WordsRefusal::Usage) => print_usage(out),
+        Err(WordsRefusal::NoMemory) => NO_MEMORY,
+    }
+}
+
+/// Prints the usage line, and answers the status.
+pub fn print_usage<K: Sink>(out: &mut K) -> u8
+    ensures { Prints usage_text 2 (K.state out.old) (K.state out.new) result }
+{
+    print(out, USAGE_LINE, USAGE)
+}
+
+/// Does the work of a command, and answers the status.
+fn carry_out<F: Folder, K: Sink>(
+    alloc: Global,
+    command: &Command,
+    folder: &mut F,
+    out: &mut K,
+) -> u8
+    ensures { Does (Some (command_data command.now)) (F.state folder.old) (F.state folder.new)
+        (K.state out.old) (K.state out.new) result }
+{
+    match command {
+        Command::Solve {
+            network,
+            currents,
+            sheet,
+        } => { solve(alloc, folder, out, &names(network, currents, sheet)) }
+        Command::Pairs { network } => pairs(alloc, folder, out, network),
+        Command::Margins {
+            network,
+            currents,
+            sheet,
+        } => { margins(alloc, folder, out, &names(network, currents, sheet)) }
+    }
+}
+
+/// The names of three files.
+fn names<'a>(network: &'a str, currents: &'a str, sheet: &'a str) -> Names<'a>
+    ensures { names_data result ≡ record { network = network.entry.now; currents = currents.entry.now; sheet = sheet.entry.now } }
+{
+    Names {
+        network,
+        currents,
+        sheet,
+    }
+}
