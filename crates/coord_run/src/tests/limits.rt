@@ -1,4 +1,7 @@
 use super::*;
+use fault_table::read_currents;
+use margin_rows::{build, least_gap};
+use network_file::read_network;
 
 /// What a relay has beside its names.
 const REST: &str =
@@ -184,6 +187,24 @@ fn as_many_rows_as_may_be_are_coordinated(rt: HostRuntime) -> Result<(), test::F
         "too many: rows 4096\n",
         &[],
     )?;
+    Ok(())
+}
+
+// Both times have ends that lie a nanosecond apart: 176 of them, of weight 1,000 at dial 15, are 2,640 microseconds.
+#[test]
+fn the_least_gap_of_many_wide_times_is_their_sum(rt: HostRuntime) -> Result<(), test::Fail> {
+    let network = star(&rt)?;
+    let table = star_currents(&rt, 7)?;
+    let Ok(study) = read_network(rt.alloc(), network.as_bytes()) else {
+        panic!(&rt; "the network is refused");
+    };
+    let Ok(currents) = read_currents(rt.alloc(), &study, table.as_bytes()) else {
+        panic!(&rt; "the currents are refused");
+    };
+    let Ok(inst) = build(rt.alloc(), study, currents) else {
+        panic!(&rt; "the case is refused");
+    };
+    assert_eq!(rt; least_gap(&inst), 2_641);
     Ok(())
 }
 
