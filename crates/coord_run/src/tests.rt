@@ -1,6 +1,7 @@
 //! What no clause says: that calls succeed, the values of whole studies, and which planned failure is met. The settings,
 //! costs and margins were worked out by hand.
 mod endings;
+mod formats;
 mod limits;
 mod listing;
 mod margins;
