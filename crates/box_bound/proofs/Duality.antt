@@ -183,7 +183,7 @@ module _ (case : Case) (box : Box) (lambda : ℕ) (ws : List Weight) (settings :
           atoms v fixed total a g gains x y p l ps ls is const under mixed scaled b c met = omega (arith, ints, is, const, under, mixed, scaled, b, c, met)
 
 -- the bound of a number that is at most lambda times the least sum is at most the least that the settings cost
-bound_below : (lambda least : ℕ) (v : ℤ) → 1 ≤ lambda → v ≤ℤ pos (lambda * least) → bound_at v lambda ≤ least / 1000000
+pub bound_below : (lambda least : ℕ) (v : ℤ) → 1 ≤ lambda → v ≤ℤ pos (lambda * least) → bound_at v lambda ≤ least / 1000000
 bound_below lambda least (pos v) some under =
     let few : v ≤ lambda * least = omega (arith, ints, under) in
     let q = v / (lambda * 1000000) in

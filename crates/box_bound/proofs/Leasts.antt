@@ -1,5 +1,5 @@
 -- The least part of a relay, step by step.
-use Rattle.std.specs.Prelude.{ℤ, pos, ◌+ℤ◌, ◌-ℤ◌, ◌≤ℤ◌}
+use Rattle.std.specs.Prelude.{ℤ, pos, ◌-ℤ◌, ◌≤ℤ◌}
 use Rattle.std.specs.Int.{int_min}
 use Rattle.std.proofs.Common.{◌≡◌, ℕ, suc, ◌+◌, ◌*◌, ◌^◌, ◌≤◌, ◌⊎◌, inl, inr, Bool, true, false, cond, List, arith, refl, sym, ap, ◌∙◌, subst}
 use Rattle.std.proofs.lemmas.Bool.{cases_lt}
@@ -12,6 +12,7 @@ use Rattle.margin_rows.specs.Dial.{dial_at_step}
 use Rattle.margin_rows.specs.declared.span.Span.{Span}
 use Rattle.margin_rows.specs.declared.span.Steps.{Steps}
 use Rattle.box_bound.specs.DualValue.{gain, loss, at_dial, part, IsEnd, IsLeastPart}
+use Rattle.box_bound.specs.Standing.{IsSmall}
 use Rattle.box_bound.proofs.Spans.{IsSpanRead}
 
 -- the lesser of two numbers is one of them
@@ -21,11 +22,6 @@ picked x y r is = go _ is
     go : (b : Bool) → r ≡ cond b y x → (r ≡ x) ⊎ (r ≡ y)
     go true is = inr is
     go false is = inl is
-
--- the number lies between -2^106 and 2^106
-pub record IsSmall (z : ℤ) : Type 0 where
-  pub not_low : pos 0 ≤ℤ (z +ℤ pos (2 ^ 106))
-  pub not_high : z ≤ℤ pos (2 ^ 106)
 
 pub picked_small : (x y r : ℤ) → (r ≡ x) ⊎ (r ≡ y) → IsSmall x → IsSmall y → IsSmall r
 picked_small x y r (inl is) a b = rw is a

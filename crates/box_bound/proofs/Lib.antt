@@ -1,4 +1,4 @@
-pub mod Parts
+pub mod RowParts
 pub mod Spans
 pub mod Leasts
 pub mod Totals
@@ -9,3 +9,6 @@ pub mod Duality
 pub mod Values
 pub mod Bounds
 pub mod LowestBounds
+pub mod PartLaws
+pub mod DualValues
+pub mod BelowCosts

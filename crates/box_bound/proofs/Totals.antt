@@ -11,7 +11,7 @@ use Rattle.margin_rows.specs.Box.{Box}
 use Rattle.margin_rows.specs.Case.{Case}
 use Rattle.margin_rows.proofs.Places.{each_push}
 use Rattle.box_bound.specs.DualValue.{pickups_of, dials_of, total, weighted_constant, IsDualValue, IsLeastPart}
-use Rattle.box_bound.proofs.Leasts.{IsSmall}
+use Rattle.box_bound.specs.Standing.{IsSmall}
 
 -- the interval by the weights, and the least parts of the first n relays
 pub record IsSumOf (case : Case) (box : Box) (lambda : ℕ) (weights : List Weight) (n : ℕ) (sum : ℤ) : Type 0 where
@@ -21,7 +21,7 @@ pub record IsSumOf (case : Case) (box : Box) (lambda : ℕ) (weights : List Weig
   pub adds_up : sum ≡ total (map (weighted_constant case) weights) +ℤ total leasts
 
 -- one number more
-total_push : (zs : List ℤ) (z : ℤ) → total (zs ++ z ∷ []) ≡ total zs +ℤ z
+pub total_push : (zs : List ℤ) (z : ℤ) → total (zs ++ z ∷ []) ≡ total zs +ℤ z
 total_push [] z = omega (arith, ints)
 total_push (y ∷ zs) z = let others = total_push zs z in omega (arith, ints, others)
 

@@ -1,3 +1,4 @@
 pub mod DualValue
 pub mod LowerBound
+pub mod Standing
 pub mod Weighing

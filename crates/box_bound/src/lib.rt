@@ -8,11 +8,13 @@ mod bound;
 mod coefficient;
 mod dual;
 mod least;
+mod parts;
 mod shares;
 mod touching;
 
 pub use bound::bound_of;
 pub use dual::{plain, value};
+pub use parts::Parts;
 
 #[cfg(test)]
 mod tests;

@@ -2,7 +2,7 @@
 ghost use Rattle.std.specs.Prelude.{◌<◌, length};
 ghost use Rattle.margin_rows.specs.Box.{FitsBox};
 
-use crate::{bound_of, plain, value};
+use crate::{Parts, bound_of, plain, value};
 use coord_model::{NoMemory, Weight};
 use hand_studies::{Limits, parallel_lines, two_lines};
 use margin_rows::{BuildFault, Instance, Ranges};
@@ -64,6 +64,25 @@ fn the_interval_counts_by_the_weights(rt: HostRuntime) -> Result<(), BuildFault>
     raise_dials(&inst, &mut ranges, 1);
     assert!(rt; dual_value(&inst, &ranges, 3, &[FIRST_ROW, SECOND_ROW]) == Some(648_000_000_000));
     assert!(rt; plain_bound(&inst, &ranges) == Some(84_000));
+    Ok(())
+}
+
+// Without weights each relay counts its least dial at 1.5 s: 0.002 in the first box, 0.028 in the other.
+#[test]
+fn parts_follow_to_a_narrower_box(rt: HostRuntime) -> Result<(), BuildFault> {
+    let alloc = rt.alloc();
+    let inst = parallel_lines(alloc, 100)?;
+    let first = Ranges::first(alloc, &inst)?;
+    let mut raised = first.copy()?;
+    raise_dials(&inst, &mut raised, 0);
+    raise_dials(&inst, &mut raised, 1);
+    if first.has_empty_span() || raised.has_empty_span() {
+        return Err(BuildFault::NoMemory);
+    }
+    let parts = Parts::new(alloc, &inst, &first)?;
+    let mut followed = parts.copy()?;
+    followed.follow(&inst, &first, &raised);
+    assert_eq!(rt; (parts.plain(), followed.plain()), (6_000, 84_000));
     Ok(())
 }
 

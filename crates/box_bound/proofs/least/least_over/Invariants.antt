@@ -1,5 +1,5 @@
 use Rattle.box_bound.specs.DualValue.{pickups_of, dials_of, IsLeastPart}
-use Rattle.box_bound.proofs.Leasts.{IsSmall}
+use Rattle.box_bound.specs.Standing.{IsSmall}
 use Rattle.box_bound.proofs.least.least_over.Given as goal
 
 abbrev pub invariant-loop-step : goal.invariant-loop-step

@@ -1,6 +1,6 @@
 use Rattle.std.proofs.Common.{◌≡◌, ◌≢◌, ◌∙◌, arith, sym}
 use Rattle.coord_model.specs.declared.study.RowKind.TheVariants.{Most}
-use Rattle.box_bound.proofs.Parts.{backup_is}
+use Rattle.box_bound.proofs.RowParts.{backup_is}
 use Rattle.box_bound.proofs.shares.backup_part.Goals as goal
 
 pub returns-clause-exact : goal.returns-clause-exact

@@ -1,6 +1,6 @@
 use Rattle.std.proofs.Common.{◌≡◌, ◌≢◌, ◌∙◌, arith, sym}
 use Rattle.coord_model.specs.declared.study.RowKind.TheVariants.{Least}
-use Rattle.box_bound.proofs.Parts.{primary_is}
+use Rattle.box_bound.proofs.RowParts.{primary_is}
 use Rattle.box_bound.proofs.shares.primary_part.Goals as goal
 
 pub returns-clause-exact : goal.returns-clause-exact
