@@ -13,3 +13,5 @@ pub mod PartLimits
 pub mod Rows
 pub mod StudyData
 pub mod Time
+pub mod Tree
+pub mod TreeLimits

@@ -87,17 +87,34 @@ pub fn two_lines(
 {
     build(
         alloc,
-        two_lines_study(alloc, dial_count, load_amps, limits)?,
+        two_lines_study(alloc, 1, dial_count, load_amps, limits)?,
+        two_lines_currents(alloc)?,
+    )
+}
+
+/// The same with two pickups for the first relay, dials up to 1.000, and no limits.
+pub fn two_pickups(alloc: Global) -> Result<Instance, BuildFault>
+    ensures { IfOk result (λ inst. length inst.study.relays ≡ 2) }
+{
+    let limits = Limits {
+        least_ms: 0,
+        most_ms: 0,
+    };
+    build(
+        alloc,
+        two_lines_study(alloc, 2, 20, 0, limits)?,
         two_lines_currents(alloc)?,
     )
 }
 
 fn two_lines_study(
     alloc: Global,
+    plug_count: u32,
     dial_count: u32,
     load_amps: u32,
     limits: Limits,
 ) -> Result<Study, NoMemory>
+    requires plugs { IsBetween 1 plug_count 2 }
     requires dials { IsBetween 1 dial_count 20 }
     requires load { load_amps ≤ 1000 }
     requires limits { (limits.least_ms ≤ 1000) × (limits.most_ms ≤ 1000) }
@@ -118,7 +135,7 @@ fn two_lines_study(
         },
     ];
     let relays = [
-        relay(0, 0, 1, 50, dial_count, load_amps),
+        relay(0, 0, plug_count, 50, dial_count, load_amps),
         Relay {
             least_ms: limits.least_ms,
             most_ms: limits.most_ms,
@@ -159,6 +176,68 @@ fn two_lines_currents(alloc: Global) -> Result<Currents, NoMemory>
             fault: 1,
             relay: 0,
             amps: 1_900,
+        },
+    ];
+    Ok(Currents {
+        entries: Vec::from_slice(alloc, &entries)?,
+    })
+}
+
+/// The two lines with a fault on the second alone, at multiple 8 for each relay, an interval of 270 ms, and the dials
+/// 0.140 and 0.280: one tick apart the relays meet the interval exactly, which the enclosures can't tell.
+pub fn tied_lines(alloc: Global) -> Result<Instance, BuildFault>
+    ensures { IfOk result (λ inst. length inst.study.relays ≡ 2) }
+{
+    build(alloc, tied_lines_study(alloc)?, tied_lines_currents(alloc)?)
+}
+
+fn tied_lines_study(alloc: Global) -> Result<Study, NoMemory>
+    ensures fits { IfOk result (λ study. FitsStudy (study_data study)) }
+    ensures faults { IfOk result (λ study. length study.faults.items ≡ 1) }
+    ensures relays { IfOk result (λ study. length study.relays.items ≡ 2) }
+{
+    let lines = [
+        Line {
+            name: name(),
+            from: 0,
+            to: 1,
+        },
+        Line {
+            name: name(),
+            from: 1,
+            to: 2,
+        },
+    ];
+    let relays = [relay(0, 0, 1, 140, 2, 0), relay(1, 1, 1, 140, 2, 0)];
+    Ok(Study {
+        format: 2,
+        cti_ms: 270,
+        sense: 110,
+        cap: 20,
+        load_percent: 120,
+        buses: Vec::from_slice(alloc, &[name(), name(), name()])?,
+        lines: Vec::from_slice(alloc, &lines)?,
+        relays: Vec::from_slice(alloc, &relays)?,
+        faults: Vec::from_slice(alloc, &[fault(1)])?,
+        exempt: Vec::new(alloc),
+        intervals: Vec::new(alloc),
+    })
+}
+
+fn tied_lines_currents(alloc: Global) -> Result<Currents, NoMemory>
+    ensures few { IfOk result (λ currents. length (entries_of currents) ≤ 8192) }
+    ensures each { IfOk result (λ currents. All (λ entry. (entry.fault < 1) × (entry.relay < 2) × (entry.amps ≤ 100000)) (entries_of currents)) }
+{
+    let entries = [
+        Current {
+            fault: 0,
+            relay: 1,
+            amps: 800,
+        },
+        Current {
+            fault: 0,
+            relay: 0,
+            amps: 800,
         },
     ];
     Ok(Currents {

@@ -1,0 +1,9 @@
+pub mod TightBoxes
+pub mod NodeLaws
+pub mod TreeLaws
+pub mod Proving
+pub mod Rooms
+pub mod WalkLaws
+pub mod WalkedTrees
+pub mod TreeTaking
+pub mod BoxCounts

@@ -1,0 +1,145 @@
+-- The nodes of a tree, taken at the first due box: the walk passes them if the tree holds there, and else refuses the
+-- first that fails.
+use Rattle.std.specs.Prelude.{Option, Some}
+use Rattle.std.proofs.Common.{◌≡◌, ℕ, suc, ◌+◌, ◌≤◌, inl, inr, List, [], ◌∷◌, length, arith, refl, sym, ◌∙◌, ap, subst}
+use Rattle.std.proofs.lemmas.List.{length-append}
+use Rattle.coord_model.specs.Tree.{Single, Tree, split, empty, void, bound, hair, open_leaf, nodes_of, root}
+use Rattle.coord_model.specs.declared.weights.Weight.{Weight}
+use Rattle.margin_rows.specs.Box.{Box}
+use Rattle.margin_rows.specs.Case.{Case}
+use Rattle.cert_tree.specs.Counting.{both, no_counts}
+use Rattle.cert_tree.specs.Endings.{counts_of, ending_by, ending_of}
+use Rattle.cert_tree.specs.Holding.{Fails, Holds, at_bound, at_empty, at_hair, at_open_leaf, at_split, at_void, below_high, below_low, here, lower}
+use Rattle.cert_tree.specs.Judgement.{IsRightWith}
+use Rattle.cert_tree.specs.NodeFaults.{IsFirstWrong}
+use Rattle.cert_tree.specs.TreeWalks.{IsPast, walk_at}
+use Rattle.cert_tree.specs.Walks.{AtFirst, Refuses, Walk, Walked}
+use Rattle.cert_tree.specs.declared.counts.Counts.{Counts}
+use Rattle.cert_tree.specs.declared.kind.NodeKind.{NodeKind}
+use Rattle.cert_tree.proofs.WalkLaws.{counts_parts, lower_none, lower_parts, refused_split, taken_at, walked_split}
+
+-- a leaf that is right holds
+empty_holds : (case : Case) (box : Box) (given : Option ℕ) → IsRightWith case box (root empty) given → Holds case box empty given
+empty_holds case box given is = subst (λ (g : Option ℕ). Holds case box empty g) (sym is.gives) (at_empty is.right)
+
+void_holds : (case : Case) (box : Box) (weights : List Weight) (given : Option ℕ) → IsRightWith case box (root (void weights)) given → Holds case box (void weights) given
+void_holds case box weights given is = subst (λ (g : Option ℕ). Holds case box (void weights) g) (sym is.gives) (at_void is.right)
+
+bound_holds : (case : Case) (box : Box) (lambda : ℕ) (weights : List Weight) (given : Option ℕ) → IsRightWith case box (root (bound lambda weights)) given → Holds case box (bound lambda weights) given
+bound_holds case box lambda weights given is =
+    let g = is.gives in
+    subst (λ (o : Option ℕ). Holds case box (bound lambda weights) o) (sym (g.4 ∙ ap Some g.3.is)) (at_bound is.right g.2 g.3.dual)
+
+hair_holds : (case : Case) (box : Box) (row : ℕ) (given : Option ℕ) → IsRightWith case box (root (hair row)) given → Holds case box (hair row) given
+hair_holds case box row given is =
+    let g = is.gives in
+    subst (λ (o : Option ℕ). Holds case box (hair row) o) (sym g.4) (at_hair is.right g.2 g.3)
+
+open_holds : (case : Case) (box : Box) (lambda : ℕ) (weights : List Weight) (given : Option ℕ) → IsRightWith case box (root (open_leaf lambda weights)) given → Holds case box (open_leaf lambda weights) given
+open_holds case box lambda weights given is =
+    let g = is.gives in
+    subst (λ (o : Option ℕ). Holds case box (open_leaf lambda weights) o) (sym (g.2 ∙ ap Some g.1.is)) (at_open_leaf is.right g.1.dual)
+
+-- past a leaf
+leaf_past : (case : Case) (before : Walk) (box : Box) (others : List Box) (leaf : Tree) (given : Option ℕ) (next later : Walk) → length (nodes_of leaf) ≡ 1 → later ≡ next → Holds case box leaf given
+    → next.due ≡ others → next.nodes ≡ suc before.nodes → next.counts ≡ both before.counts (counts_of leaf) → next.bound ≡ lower before.bound given → IsPast case before box others leaf later
+leaf_past case before box others leaf given next later one is holds due nodes counts low =
+    subst (λ (w : Walk). IsPast case before box others leaf w) (sym is)
+    (record { given = given; holds = holds; due = due; nodes = omega (arith, nodes, one); counts = counts; bound = low })
+
+-- the walk takes the nodes of a tree only if it holds at the first due box, and is past it then
+pub walked_tree : (case : Case) (tree : Tree) (box : Box) (others : List Box) (before after : Walk) → before.due ≡ box ∷ others → Walked case before (nodes_of tree) after → IsPast case before box others tree after
+walked_tree case (split relay at below above) box others before after is walked =
+    let t = taken_at case before box others (root (split relay at below above)) walked.0 is walked.1 in
+    let low = t.due.0 in
+    let high = t.due.1 in
+    let parts = walked_split case (nodes_of below) (nodes_of above) walked.0 after walked.2 in
+    let first = walked_tree case below low (high ∷ others) walked.0 parts.0 t.due.3 parts.1 in
+    let second = walked_tree case above high others parts.0 after first.due parts.2 in
+    record {
+      given = lower first.given second.given;
+      holds = at_split t.right.right t.due.2 first.holds second.holds;
+      due = second.due;
+      nodes = omega (arith, second.nodes, first.nodes, t.nodes, length-append (nodes_of below) (nodes_of above));
+      counts = second.counts ∙ ap (λ c. both c (counts_of above)) first.counts
+          ∙ counts_parts before.counts (counts_of below) (counts_of above) relay at below above refl refl walked.0.counts t.counts;
+      bound = second.bound ∙ ap (λ b. lower b second.given) (first.bound ∙ ap (λ b. lower b first.given) (t.bound ∙ ap (lower before.bound) t.right.gives ∙ lower_none before.bound))
+          ∙ lower_parts before.bound first.given second.given;
+    }
+walked_tree case empty box others before after is walked =
+    let t = taken_at case before box others (root empty) walked.0 is walked.1 in
+    leaf_past case before box others empty t.given walked.0 after (omega arith) walked.2 (empty_holds case box t.given t.right) t.due t.nodes t.counts t.bound
+walked_tree case (void weights) box others before after is walked =
+    let t = taken_at case before box others (root (void weights)) walked.0 is walked.1 in
+    leaf_past case before box others (void weights) t.given walked.0 after (omega arith) walked.2 (void_holds case box weights t.given t.right) t.due t.nodes t.counts t.bound
+walked_tree case (bound lambda weights) box others before after is walked =
+    let t = taken_at case before box others (root (bound lambda weights)) walked.0 is walked.1 in
+    leaf_past case before box others (bound lambda weights) t.given walked.0 after (omega arith) walked.2 (bound_holds case box lambda weights t.given t.right) t.due t.nodes t.counts t.bound
+walked_tree case (hair row) box others before after is walked =
+    let t = taken_at case before box others (root (hair row)) walked.0 is walked.1 in
+    leaf_past case before box others (hair row) t.given walked.0 after (omega arith) walked.2 (hair_holds case box row t.given t.right) t.due t.nodes t.counts t.bound
+walked_tree case (open_leaf lambda weights) box others before after is walked =
+    let t = taken_at case before box others (root (open_leaf lambda weights)) walked.0 is walked.1 in
+    leaf_past case before box others (open_leaf lambda weights) t.given walked.0 after (omega arith) walked.2 (open_holds case box lambda weights t.given t.right) t.due t.nodes t.counts t.bound
+
+at_first : (P : Box → Type 0) (due : List Box) (box : Box) (others : List Box) → due ≡ box ∷ others → AtFirst P due → P box
+at_first P due box others is at = subst (λ (xs : List Box). AtFirst P xs) is at
+
+leaf_fails : (case : Case) (leaf : Tree) (box : Box) (others : List Box) (before : Walk) (number : ℕ) (kind : NodeKind) → before.due ≡ box ∷ others → Refuses case before (root leaf ∷ []) number kind → Fails case box leaf number kind
+leaf_fails case leaf box others before number kind is (inl at) =
+    subst (λ (n : ℕ). Fails case box leaf n kind) (sym at.1) (here (at_first (λ b. IsFirstWrong case b (root leaf) kind) before.due box others is at.0))
+leaf_fails case leaf box others before number kind is (inr at) = absurd at.3
+
+-- the walk refuses a node of a tree only if it is the first that fails at the first due box
+pub refused_tree : (case : Case) (tree : Tree) (box : Box) (others : List Box) (before : Walk) (number : ℕ) (kind : NodeKind) → before.due ≡ box ∷ others
+    → Refuses case before (nodes_of tree) number kind → Fails case box tree number kind
+refused_tree case (split relay at below above) box others before number kind is (inl wrong) =
+    subst (λ (n : ℕ). Fails case box (split relay at below above) n kind) (sym wrong.1) (here (at_first (λ b. IsFirstWrong case b (root (split relay at below above)) kind) before.due box others is wrong.0))
+refused_tree case (split relay at below above) box others before number kind is (inr after) =
+    let t = taken_at case before box others (root (split relay at below above)) after.0 is after.2 in
+    let low = t.due.0 in
+    let high = t.due.1 in
+    subst (λ (n : ℕ). Fails case box (split relay at below above) n kind) (sym after.4)
+    (elim (refused_split case (nodes_of below) (nodes_of above) after.0 after.1 kind after.3) as (λ _. Fails case box (split relay at below above) (suc after.1) kind) [
+      | inl front ↦ below_low t.right.right t.due.2 (refused_tree case below low (high ∷ others) after.0 after.1 kind t.due.3 front)
+      | inr behind ↦
+          let first = walked_tree case below low (high ∷ others) after.0 behind.0 t.due.3 behind.2 in
+          let e : suc (length (nodes_of below) + behind.1) ≡ suc after.1 = omega (arith, behind.4) in
+          subst (λ (n : ℕ). Fails case box (split relay at below above) n kind) e
+          (below_high t.right.right t.due.2 first.holds (refused_tree case above high others behind.0 behind.1 kind first.due behind.3))
+    ])
+refused_tree case empty box others before number kind is at = leaf_fails case empty box others before number kind is at
+refused_tree case (void weights) box others before number kind is at = leaf_fails case (void weights) box others before number kind is at
+refused_tree case (bound lambda weights) box others before number kind is at = leaf_fails case (bound lambda weights) box others before number kind is at
+refused_tree case (hair row) box others before number kind is at = leaf_fails case (hair row) box others before number kind is at
+refused_tree case (open_leaf lambda weights) box others before number kind is at = leaf_fails case (open_leaf lambda weights) box others before number kind is at
+
+-- a walk that began at a box and took the nodes of a tree ended: the tree holds there, and its bound, its boxes and its
+-- ending are those of the walk
+pub walk_holds : (case : Case) (box : Box) (tree : Tree) (later : Walk) → Walked case (walk_at box) (nodes_of tree) later → Holds case box tree later.bound
+walk_holds case box tree later walked =
+    let past = walked_tree case tree box [] (walk_at box) later refl walked in
+    subst (λ (b : Option ℕ). Holds case box tree b) (sym past.bound) past.holds
+
+pub walk_counts : (case : Case) (box : Box) (tree : Tree) (later : Walk) → Walked case (walk_at box) (nodes_of tree) later → later.counts ≡ counts_of tree
+walk_counts case box tree later walked = (walked_tree case tree box [] (walk_at box) later refl walked).counts ∙ no_more (counts_of tree)
+  where
+    no_more : (c : Counts) → both no_counts c ≡ c
+    no_more c = let e : 0 + c.boxes ≡ c.boxes = omega arith in ap (λ (n : ℕ). record { boxes = n; open_leaf = c.open_leaf; hair = c.hair; no_settings = c.no_settings }) e
+
+pub walk_due : (case : Case) (box : Box) (tree : Tree) (later : Walk) → Walked case (walk_at box) (nodes_of tree) later → later.due ≡ []
+walk_due case box tree later walked = (walked_tree case tree box [] (walk_at box) later refl walked).due
+
+pub walk_ending : (case : Case) (box : Box) (tree : Tree) (later : Walk) (cost : Option ℕ) (gap budget : ℕ) → Walked case (walk_at box) (nodes_of tree) later
+    → ending_by later.counts later.bound cost gap budget ≡ ending_of tree later.bound cost gap budget
+walk_ending case box tree later cost gap budget walked = ap (λ (c : Counts). ending_by c later.bound cost gap budget) (walk_counts case box tree later walked)
+
+-- and one that was refused at a node: the tree fails there
+pub walk_fails : (case : Case) (box : Box) (tree : Tree) (number : ℕ) (kind : NodeKind) → Refuses case (walk_at box) (nodes_of tree) number kind → Fails case box tree number kind
+walk_fails case box tree number kind at = refused_tree case tree box [] (walk_at box) number kind refl at
+
+-- what is refused is one of the nodes
+pub refused_within : (case : Case) (nodes : List Single) (walk : Walk) (number : ℕ) (kind : NodeKind) → Refuses case walk nodes number kind → number ≤ length nodes
+refused_within case [] walk number kind gone = absurd gone
+refused_within case (node ∷ nodes) walk number kind (inl at) = omega (arith, at.1)
+refused_within case (node ∷ nodes) walk number kind (inr at) = omega (arith, at.4, refused_within case nodes at.0 at.1 kind at.3)

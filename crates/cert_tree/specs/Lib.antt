@@ -1,0 +1,10 @@
+pub mod NodeFaults
+pub mod Holding
+pub mod Endings
+pub mod Judgement
+pub mod Counting
+pub mod Room
+pub mod Walks
+pub mod Proving
+pub mod TreeWalks
+pub mod Verdict

@@ -1,0 +1,26 @@
+-- The limits of a tree and of the weights of its leaves (ours).
+use Rattle.std.specs.Prelude.{ℕ, ◌≤◌, ⊤, List, length, All, map}
+use Rattle.std.specs.List.Sorted.{IsStrictlyIncreasing}
+use Rattle.coord_model.specs.Tree.{Tree, split, empty, void, bound, hair, open_leaf, depth, nodes_of}
+use Rattle.coord_model.specs.declared.weights.Weight.{Weight}
+
+-- the weights are at most 64, in the rising order of their rows, each of at least 1
+pub record AreLeafWeights (weights : List Weight) : Type 0 where
+  pub few : length weights ≤ 64
+  pub ascending : IsStrictlyIncreasing (map (λ w. w.row) weights)
+  pub some : All (λ w. 1 ≤ w.weight) weights
+
+-- the weights of each leaf keep their limits, and lambda is at least 1 at a leaf with a bound
+abbrev pub FitLeaves : Tree → Type 0
+FitLeaves (split relay at low high) = FitLeaves low × FitLeaves high
+FitLeaves empty = ⊤
+FitLeaves (void weights) = AreLeafWeights weights
+FitLeaves (bound lambda weights) = (1 ≤ lambda) × AreLeafWeights weights
+FitLeaves (hair row) = ⊤
+FitLeaves (open_leaf lambda weights) = (1 ≤ lambda) × AreLeafWeights weights
+
+-- the tree is within the limits: at most 3,072 splits on a path, at most 400,001 nodes, and leaves with fit weights
+pub record FitsTree (tree : Tree) : Type 0 where
+  pub paths : depth tree ≤ 3072
+  pub nodes : length (nodes_of tree) ≤ 400001
+  pub leaves : FitLeaves tree
