@@ -1,0 +1,9 @@
+pub mod Entries
+pub mod Bags
+pub mod Standing
+pub mod Turning
+pub mod Arenas
+pub mod Places
+pub mod Growth
+pub mod Planting
+pub mod Firsts
