@@ -1,0 +1,6 @@
+mod Bests
+mod Pickups
+mod Rises
+mod RuleLaws
+mod HalfLaws
+mod Splits

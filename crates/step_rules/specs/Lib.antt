@@ -1,0 +1,6 @@
+pub mod Offers
+pub mod Usable
+pub mod Rules
+pub mod Issuing
+pub mod OpenBoxes
+pub mod Handlings

@@ -1,0 +1,369 @@
+//! What becomes of boxes that are worked out by hand: curve B takes 13.5/(M - 1) seconds at the multiple of pickup M and
+//! dial 1.
+ghost use Rattle.std.specs.Prelude.{◌≡◌, IfOk, IfSome};
+ghost use Rattle.step_rules.specs.Handlings.{LeavesHalves};
+ghost use Rattle.step_rules.specs.OpenBoxes.{IsOpenBox};
+
+use crate::{Handling, Issued, OpenBox, handle};
+use coord_model::{NoMemory, Weight, Weights};
+use hand_studies::{Limits, parallel_lines, tied_lines, two_lines, two_pickups};
+use lp_advice::{Advice, Adviser, NullAdviser};
+use margin_rows::{BuildFault, Instance, Ranges, least_gap};
+use std::alloc::Global;
+
+const NO_LIMITS: Limits = Limits {
+    least_ms: 0,
+    most_ms: 0,
+};
+
+/// What became of a box, halves by their lambda and bound, and the cost of what is issued in its place.
+#[derive(Clone, Copy, PartialEq)]
+struct Step {
+    ending: Ending,
+    cost: Option<u64>,
+}
+
+#[derive(Clone, Copy, PartialEq)]
+enum Ending {
+    Empty,
+    Void,
+    Bound(u32),
+    Hair(u16),
+    Split {
+        relay: u16,
+        at: u16,
+        low: (u32, u64),
+        high: (u32, u64),
+    },
+}
+
+/// An adviser that gives the same advice for every box.
+#[derive(Clone, Copy)]
+struct Told {
+    lambda: u32,
+    rows: &'static [Weight],
+    relay: u16,
+    at: u16,
+    pickups: &'static [u16],
+}
+
+impl Adviser for Told {
+    fn advise(
+        &mut self,
+        alloc: Global,
+        _inst: &Instance,
+        _ranges: &Ranges,
+    ) -> Result<Advice, NoMemory> {
+        Ok(Advice {
+            weights: Weights {
+                lambda: self.lambda,
+                rows: Vec::from_slice(alloc, self.rows)?,
+            },
+            relay: self.relay,
+            at: self.at,
+            pickups: Vec::from_slice(alloc, self.pickups)?,
+        })
+    }
+}
+
+const FIRST_ROW: Weight = Weight { row: 0, weight: 1 };
+
+const SECOND_ROW: Weight = Weight { row: 1, weight: 1 };
+
+const NO_ROW: Weight = Weight {
+    row: 4_000,
+    weight: 1,
+};
+
+const NO_WEIGHT: Weight = Weight { row: 0, weight: 0 };
+
+const GREATEST_WEIGHT: Weight = Weight {
+    row: 0,
+    weight: u32::MAX,
+};
+
+/// Lambda 1 without weights, a step that no relay has, and the lowest pickups.
+const NOTHING: Told = Told {
+    lambda: 1,
+    rows: &[],
+    relay: 0,
+    at: 65_535,
+    pickups: &[0, 0],
+};
+
+/// Advice that can't be used, or is of no use.
+const LIARS: &[Told] = &[
+    NOTHING,
+    Told {
+        rows: &[FIRST_ROW, FIRST_ROW],
+        ..NOTHING
+    },
+    Told {
+        rows: &[FIRST_ROW, NO_ROW],
+        ..NOTHING
+    },
+    Told {
+        rows: &[NO_WEIGHT],
+        ..NOTHING
+    },
+    Told {
+        rows: &[FIRST_ROW; 65],
+        ..NOTHING
+    },
+    Told {
+        rows: &[GREATEST_WEIGHT; 64],
+        ..NOTHING
+    },
+    Told {
+        rows: &[GREATEST_WEIGHT],
+        ..NOTHING
+    },
+    Told {
+        lambda: 0,
+        rows: &[FIRST_ROW],
+        ..NOTHING
+    },
+    Told {
+        relay: 96,
+        at: 0,
+        ..NOTHING
+    },
+    Told {
+        pickups: &[0],
+        ..NOTHING
+    },
+    Told {
+        pickups: &[1, 1, 0],
+        ..NOTHING
+    },
+    Told {
+        pickups: &[0, 2],
+        ..NOTHING
+    },
+];
+
+// The lowest dials of the tight box are 0.250 and 0.050: 0.250 * 0.75 + 0.050 * 1.5 s, at both ends of the times.
+#[test]
+fn lowest_settings_close_a_box(rt: HostRuntime) -> Result<(), BuildFault> {
+    let alloc = rt.alloc();
+    let step = first_step(
+        alloc,
+        &two_lines(alloc, 20, 0, NO_LIMITS)?,
+        &mut NullAdviser,
+    )?;
+    assert!(rt;
+        step == Step {
+            ending: Ending::Bound(1),
+            cost: Some(262_500)
+        }
+    );
+    Ok(())
+}
+
+// With dials up to 0.200 the backup takes at most 300 ms: 75 + 300 ms are more.
+#[test]
+fn an_emptied_box_is_empty(rt: HostRuntime) -> Result<(), BuildFault> {
+    let alloc = rt.alloc();
+    let step = first_step(alloc, &two_lines(alloc, 4, 0, NO_LIMITS)?, &mut NullAdviser)?;
+    assert!(rt;
+        step == Step {
+            ending: Ending::Empty,
+            cost: None
+        }
+    );
+    Ok(())
+}
+
+// 0.280 * 13.5/7 s is 0.140 * 13.5/7 + 0.270 s exactly, but no multiple of a nanosecond.
+#[test]
+fn an_interval_that_is_kept_exactly_is_a_hairline(rt: HostRuntime) -> Result<(), BuildFault> {
+    let alloc = rt.alloc();
+    let step = first_step(alloc, &tied_lines(alloc)?, &mut NullAdviser)?;
+    assert!(rt;
+        step == Step {
+            ending: Ending::Hair(0),
+            cost: None
+        }
+    );
+    Ok(())
+}
+
+// At 200 A the backup takes 3.375 s, so its dial is at least 0.150. At 100 A it is 0.250, which costs 262.5 ms. The low
+// half costs at least 0.150 * 0.75 + 0.050 * 1.5 s, the high half 0.150 * 13.5/8.5 + 0.050 * 1.5 s.
+#[test]
+fn lies_change_nothing_for_two_pickups(rt: HostRuntime) -> Result<(), BuildFault> {
+    let alloc = rt.alloc();
+    let inst = two_pickups(alloc)?;
+    let ending = Ending::Split {
+        relay: 0,
+        at: 0,
+        low: (1, 187_500),
+        high: (1, 313_235),
+    };
+    for liar in LIARS {
+        let mut liar = *liar;
+        let step = first_step(alloc, &inst, &mut liar)?;
+        assert!(rt;
+            step == Step {
+                ending,
+                cost: Some(262_500)
+            }
+        );
+    }
+    Ok(())
+}
+
+// The dials are at least 0.028. At the low pickups they are 0.108, which costs 2 * 0.108 * 1.5 s. The low half costs at
+// least 2 * 0.028 * 1.5 s, the high half 0.028 * (3.375 + 1.5) s.
+#[test]
+fn lies_change_nothing_for_parallel_lines(rt: HostRuntime) -> Result<(), BuildFault> {
+    let alloc = rt.alloc();
+    let inst = parallel_lines(alloc, 100)?;
+    let ending = Ending::Split {
+        relay: 0,
+        at: 0,
+        low: (1, 84_000),
+        high: (1, 136_500),
+    };
+    for liar in LIARS {
+        let mut liar = *liar;
+        let step = first_step(alloc, &inst, &mut liar)?;
+        assert!(rt;
+            step == Step {
+                ending,
+                cost: Some(324_000)
+            }
+        );
+    }
+    Ok(())
+}
+
+/// Lambda 4, and a weight of 1 for each row.
+const USEFUL: Told = Told {
+    lambda: 4,
+    rows: &[FIRST_ROW, SECOND_ROW],
+    ..NOTHING
+};
+
+// Both rows ask for 324 ms. A relay counts 4 * 1.5 + 1.5 - 4.5 s at the low pickup and 4 * 3.375 + 3.375 - 13.5 s at the
+// high one: 648 + 2 * 0.028 * 3 s over 4, and 648 + 0.028 * (3.375 + 3) s over 4.
+#[test]
+fn advised_weights_bound_the_halves(rt: HostRuntime) -> Result<(), BuildFault> {
+    let alloc = rt.alloc();
+    let mut told = USEFUL;
+    let step = first_step(alloc, &parallel_lines(alloc, 100)?, &mut told)?;
+    let ending = Ending::Split {
+        relay: 0,
+        at: 0,
+        low: (4, 204_000),
+        high: (4, 206_625),
+    };
+    assert!(rt;
+        step == Step {
+            ending,
+            cost: Some(324_000)
+        }
+    );
+    Ok(())
+}
+
+/// Lambda 3, a weight of 1 for each row, and the high pickups.
+const CLOSING: Told = Told {
+    lambda: 3,
+    pickups: &[1, 1],
+    ..USEFUL
+};
+
+// At the high pickups the dials are 0.032, since 0.032 * 13.5 = 0.032 * 3.375 + 0.324 exactly: 2 * 0.032 * 3.375 s. At
+// lambda 3 a relay counts 1.5 s at the low pickup and 0 at the high one: 0 at least, and 648 over 3.
+#[test]
+fn advised_pickups_and_weights_close_a_box(rt: HostRuntime) -> Result<(), BuildFault> {
+    let alloc = rt.alloc();
+    let mut told = CLOSING;
+    let step = first_step(alloc, &parallel_lines(alloc, 100)?, &mut told)?;
+    assert!(rt;
+        step == Step {
+            ending: Ending::Bound(3),
+            cost: Some(216_000)
+        }
+    );
+    Ok(())
+}
+
+// With the first relay at its low pickup the dials are at least 0.084 and 0.034, and the weights of the box before give
+// more than the plain ones: 648 + 0.084 * 3 + 0.034 * 3 s over 4, and 648 + 0.084 * 3 + 0.034 * 3.375 s over 4.
+#[test]
+fn weights_of_the_box_before_bound_its_halves(rt: HostRuntime) -> Result<(), BuildFault> {
+    let alloc = rt.alloc();
+    let mut told = USEFUL;
+    let step = second_step(
+        alloc,
+        &parallel_lines(alloc, 100)?,
+        &mut told,
+        &mut NullAdviser,
+    )?;
+    let ending = Ending::Split {
+        relay: 1,
+        at: 0,
+        low: (4, 250_500),
+        high: (4, 253_687),
+    };
+    assert!(rt; step == Some(Step { ending, cost: None }));
+    Ok(())
+}
+
+/// The first box's step, at a gap of 1,000 or the least.
+fn first_step<A: Adviser>(
+    alloc: Global,
+    inst: &Instance,
+    adviser: &mut A,
+) -> Result<Step, NoMemory> {
+    let first = OpenBox::first(alloc, inst)?;
+    let gap = least_gap(inst).max(1_000);
+    let (handling, issued) = handle(alloc, inst, &first, &None, gap, adviser)?;
+    Ok(summary(&handling, &issued))
+}
+
+/// The step of the low half of the first box; none if that isn't split.
+fn second_step<A: Adviser, B: Adviser>(
+    alloc: Global,
+    inst: &Instance,
+    adviser: &mut A,
+    later: &mut B,
+) -> Result<Option<Step>, NoMemory> {
+    let first = OpenBox::first(alloc, inst)?;
+    let gap = least_gap(inst).max(1_000);
+    let (handling, issued) = handle(alloc, inst, &first, &None, gap, adviser)?;
+    let Handling::Split { low, .. } = handling else {
+        return Ok(None);
+    };
+    let (handling, issued) = handle(alloc, inst, &low, &issued, gap, later)?;
+    Ok(Some(summary(&handling, &issued)))
+}
+
+fn summary(handling: &Handling, issued: &Option<Issued>) -> Step {
+    Step {
+        ending: ended(handling),
+        cost: issued.as_ref().map(|issued| issued.cost),
+    }
+}
+
+fn ended(handling: &Handling) -> Ending {
+    match handling {
+        Handling::Empty => Ending::Empty,
+        Handling::Void(_) => Ending::Void,
+        Handling::Bound(weights) => Ending::Bound(weights.lambda),
+        Handling::Hair { row } => Ending::Hair(*row),
+        Handling::Split {
+            relay,
+            at,
+            low,
+            high,
+        } => Ending::Split {
+            relay: *relay,
+            at: *at,
+            low: (low.weights.lambda, low.bound),
+            high: (high.weights.lambda, high.bound),
+        },
+    }
+}
