@@ -1,0 +1,13 @@
+pub mod Offering
+pub mod Turning
+pub mod Handling
+pub mod Sounding
+pub mod Held
+pub mod Ended
+pub mod PassedOver
+pub mod Sizes
+pub mod Placing
+pub mod Starting
+pub mod Stepped
+pub mod Hairs
+pub mod Concluded
