@@ -2,7 +2,7 @@
 use Rattle.std.specs.Prelude.{slice_get, ⊤}
 use Rattle.std.specs.List.{All}
 use Rattle.std.specs.Option.{IsSomeAnd}
-use Rattle.std.proofs.Common.{◌≡◌, ℕ, zero, suc, ◌+◌, ◌<◌, ◌≤◌, ◌⊎◌, inl, inr, List, [], length, get_or, Option, Some, None, arith, sym, subst}
+use Rattle.std.proofs.Common.{◌≡◌, ℕ, zero, suc, ◌+◌, ◌-◌, ◌^◌, ◌<◌, ◌≤◌, ◌⊎◌, inl, inr, List, [], length, get_or, Option, Some, None, arith, sym, subst}
 use Rattle.std.proofs.lemmas.Bool.{cases_lt}
 use Rattle.std.proofs.lemmas.Option.{get_or_from_slice_get, slice_get_within}
 use Rattle.coord_model.specs.Choice.{Settings}
@@ -105,7 +105,7 @@ module _ (case : Case) (gap : ℕ) (box : Box) where
   }
 
   weighed_fair : (tight : Box) (later : Option Settings) (weights : LeafWeights) → TightensTo case box tight → ClosesBy case gap tight weights later → IsFair case gap later box (root (bound weights.lambda weights.rows))
-  weighed_fair tight later weights to by = fair_bound tight later weights.lambda weights.rows to by.usable.named (record {
+  weighed_fair tight later weights to by = fair_bound tight later weights.lambda weights.rows to by.can.usable.named (record {
     tight = tight;
     is_tight = tight_of to;
     bound = by.bound;
@@ -139,10 +139,19 @@ module _ (case : Case) (gap : ℕ) (box : Box) where
 
 -- the weights are those that a leaf with a bound may have
 abbrev pub CanStand : LeafWeights → Type 0
-CanStand w = (1 ≤ w.lambda) × AreLeafWeights w.rows
+CanStand w = (1 ≤ w.lambda) × AreLeafWeights w.rows × (w.lambda ≤ 2 ^ 32 - 1)
 
 pub none_stand : CanStand plain_weights
-none_stand = (omega arith, record { few = omega arith; ascending = λ i below. absurd (omega (arith, below)); some = λ i d below. absurd (omega (arith, below)) })
+none_stand = (
+  omega arith,
+  record {
+    few = omega arith;
+    ascending = λ i below. absurd (omega (arith, below));
+    some = λ i d below. absurd (omega (arith, below));
+    small = λ i d below. absurd (omega (arith, below));
+  },
+  omega arith,
+)
 
 -- weights that a half may take are within the limits, and of rows of the case
 candidate_named : (case : Case) (weights own best : LeafWeights) (used : Option LeafWeights) (place : ℕ) → AreNamed case own.rows → IsUsedAdvice case weights used
@@ -158,7 +167,7 @@ candidate_named case weights own best used place named is found = subst P (get_o
     each None (suc (suc k)) is below = absurd (omega (arith, below))
     each (Some w) zero is below = none_named case
     each (Some w) (suc zero) is below = named
-    each (Some w) (suc (suc zero)) is below = is.usable.1.named
+    each (Some w) (suc (suc zero)) is below = is.can.usable.named
     each (Some w) (suc (suc (suc k))) is below = absurd (omega (arith, below))
 
 candidate_stands : (case : Case) (weights own best : LeafWeights) (used : Option LeafWeights) (place : ℕ) → CanStand own → IsUsedAdvice case weights used
@@ -171,7 +180,7 @@ candidate_stands case weights own best used place fit is found = subst CanStand 
     each None (suc (suc k)) is below = absurd (omega (arith, below))
     each (Some w) zero is below = none_stand
     each (Some w) (suc zero) is below = fit
-    each (Some w) (suc (suc zero)) is below = (is.usable.0, is.usable.1.fit)
+    each (Some w) (suc (suc zero)) is below = (is.can.some_lambda, is.can.usable.fit, is.can.small_lambda)
     each (Some w) (suc (suc (suc k))) is below = absurd (omega (arith, below))
 
 -- a box can be split at a place or it can't
@@ -223,6 +232,6 @@ handled_leaves case gap box own issued later tree fit (single_open to single mis
 handled_leaves case gap box own issued later tree fit (closed to several plain) = none_stand
 handled_leaves case gap box own issued later tree fit (closed_later to asked plain) = none_stand
 handled_leaves case gap box own issued later tree fit (voided to undecided is) = is.usable.fit
-handled_leaves case gap box own issued later tree fit (weighed to undecided no_void by) = (by.some_lambda, by.usable.fit)
+handled_leaves case gap box own issued later tree fit (weighed to undecided no_void by) = (by.can.some_lambda, by.can.usable.fit, by.can.small_lambda)
 handled_leaves case gap box own issued later tree fit (divided {advised = advised} {low = low} {high = high} to undecided no_void no_bound is) =
     (candidate_stands case advised.weights own low is.used is.low_best.place fit is.is_used is.low_best.stands, candidate_stands case advised.weights own high is.used is.high_best.place fit is.is_used is.high_best.stands)

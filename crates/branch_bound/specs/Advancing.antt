@@ -6,7 +6,7 @@ use Rattle.margin_rows.specs.Gap.{IsLeastGap}
 use Rattle.search_tree.specs.Plan.{entries, plan_of}
 use Rattle.search_tree.specs.Steps.{IsLead}
 use Rattle.search_tree.specs.declared.slot.Slot.{Slot}
-use Rattle.step_rules.specs.Issuing.{IsPriced, settings_of}
+use Rattle.step_rules.specs.Issuing.{IsGapOf, IsPriced, settings_of}
 use Rattle.step_rules.specs.Rules.{Handled}
 use Rattle.step_rules.specs.declared.issued.Issued.{Issued}
 use Rattle.step_rules.specs.declared.open_box.OpenBox.{OpenBox}
@@ -51,5 +51,5 @@ IsRefused case gap NoMemory = ⊤
 
 -- a search begins, or is refused
 abbrev pub IsBegun : Case → ℕ → ℕ → Result Search SearchFault → Type 0
-IsBegun case gap budget (Ok search) = IsAtStart case gap budget search × ((least : ℕ) → IsLeastGap case least → least ≤ gap)
+IsBegun case gap budget (Ok search) = IsAtStart case gap budget search × IsGapOf case gap
 IsBegun case gap budget (Err fault) = IsRefused case gap fault

@@ -8,7 +8,6 @@ use Rattle.coord_model.specs.declared.choice.Ending.TheVariants.{BudgetSpent, Ha
 use Rattle.margin_rows.specs.Box.{Box, IsFirstBox}
 use Rattle.margin_rows.specs.Case.{Case, row_at, rows_in}
 use Rattle.margin_rows.specs.FirstBox.{IsInFirstBox}
-use Rattle.margin_rows.specs.Gap.{IsLeastGap}
 use Rattle.margin_rows.specs.Lowest.{lowest_of}
 use Rattle.margin_rows.specs.Margin.{MeetsStrictly}
 use Rattle.margin_rows.specs.Price.{cost_of}
@@ -16,6 +15,7 @@ use Rattle.box_range.specs.Drops.{MeetsAllLoosely}
 use Rattle.cert_tree.specs.Endings.{boxes, ending_of, has_hair, has_open_leaf}
 use Rattle.cert_tree.specs.Holding.{AreTightHalves, Holds}
 use Rattle.cert_tree.specs.NodeFaults.{IsTightBox}
+use Rattle.step_rules.specs.Issuing.{IsGapOf}
 use Rattle.branch_bound.specs.Advancing.{IsRefused}
 use Rattle.branch_bound.specs.Choices.{choices}
 use Rattle.branch_bound.specs.Facts.{IsSound}
@@ -83,7 +83,7 @@ pub record IsReached (case : Case) (gap budget : ℕ) (outcome : Outcome) : Type
   pub done : IsDone budget state
   pub is_outcome : IsOutcome case gap budget state outcome
 
--- a search ends with such an outcome, or is refused because the gap is below the least gap
+-- a search ends with such an outcome, if the gap is at least the least gap; else it is refused
 abbrev pub Ends : Case → ℕ → ℕ → Result Outcome SearchFault → Type 0
-Ends case gap budget (Ok outcome) = IsReached case gap budget outcome × ((least : ℕ) → IsLeastGap case least → least ≤ gap)
+Ends case gap budget (Ok outcome) = IsReached case gap budget outcome × IsGapOf case gap
 Ends case gap budget (Err fault) = IsRefused case gap fault

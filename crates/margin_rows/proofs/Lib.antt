@@ -21,6 +21,7 @@ pub mod Reached
 pub mod Rising
 pub mod RowKinds
 pub mod RowLaws
+pub mod SmallGaps
 pub mod SmallSums
 pub mod Spanned
 pub mod Summed

@@ -19,7 +19,7 @@ use crate::price::PICOSECONDS;
 pub fn least_gap(inst: &Instance) -> u64
     ensures exact { IsLeastGap inst.now result }
     ensures only { (gap : ℕ) → IsLeastGap inst.now gap → gap ≡ result }
-    ensures small { result < 10 ^ 16 }
+    ensures small { result ≤ 10 ^ 12 }
     ensures covers { (settings : Settings) → IsInFirstBox inst.now settings → cost_of inst.now settings ≤ lower_cost_of inst.now settings + result }
 {
     width_sum(inst).div_ceil(PICOSECONDS) as u64 + 1

@@ -11,7 +11,7 @@ use Rattle.margin_rows.specs.Lowest.{HasOnePickup, lowest_of}
 use Rattle.margin_rows.specs.Unmet.{IsFirstUnmet}
 use Rattle.box_range.specs.Drops.{Drops, IsEmptied, IsTight}
 use Rattle.step_rules.specs.Offers.{IsAdvisedOffer, PlainReaches, Reaches, lowest_pickups, offered}
-use Rattle.step_rules.specs.Usable.{AreBestOf, AreUsable, HasBound, LeafWeights, ShowsVoid, plain_weights}
+use Rattle.step_rules.specs.Usable.{AreBestOf, AreUsable, CanBound, HasBound, LeafWeights, ShowsVoid, plain_weights}
 
 -- what an adviser said
 pub record Advised : Type 0 where
@@ -50,8 +50,7 @@ pub record IsUndecided (case : Case) (gap : ℕ) (tight : Box) (advised : Advise
 
 -- usable weights with a lambda whose bound reaches the cutoff
 pub record ClosesBy (case : Case) (gap : ℕ) (tight : Box) (weights : LeafWeights) (later : Option Settings) : Type 0 where
-  pub usable : AreUsable case weights.rows
-  pub some_lambda : 1 ≤ weights.lambda
+  pub can : CanBound case weights
   pub bound : ℕ
   pub gives : HasBound case tight weights bound
   pub reaches : Reaches case gap later bound
@@ -68,9 +67,9 @@ candidates own (Some advised) = plain_weights ∷ own ∷ advised ∷ []
 
 -- the advised weights, if they are usable and have a lambda
 pub record IsUsedAdvice (case : Case) (weights : LeafWeights) (used : Option LeafWeights) : Type 0 where
-  pub yes_where : AreUsable case weights.rows → 1 ≤ weights.lambda → used ≡ Some weights
-  pub none_where : ¬ (AreUsable case weights.rows × (1 ≤ weights.lambda)) → used ≡ None
-  pub usable : IfSome used (λ (w : LeafWeights). (1 ≤ w.lambda) × AreUsable case w.rows)
+  pub yes_where : CanBound case weights → used ≡ Some weights
+  pub none_where : ¬ (CanBound case weights) → used ≡ None
+  pub can : IfSome used (CanBound case)
 
 -- the first relay with two pickup steps, at its lowest
 pub record IsFirstSplit (tight : Box) (relay at : ℕ) : Type 0 where

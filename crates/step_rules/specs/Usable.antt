@@ -1,5 +1,5 @@
 -- Weights of rows that a bound may rest on, and the best of several (ours).
-use Rattle.std.specs.Prelude.{◌≡◌, ℕ, ◌<◌, ◌≤◌, ℤ, pos, ◌<ℤ◌, List, [], Some, length, slice_get, All, IfSome}
+use Rattle.std.specs.Prelude.{◌≡◌, ℕ, ◌-◌, ◌^◌, ◌<◌, ◌≤◌, ℤ, pos, ◌<ℤ◌, List, [], Some, length, slice_get, All, IfSome}
 use Rattle.coord_model.specs.TreeLimits.{AreLeafWeights}
 use Rattle.coord_model.specs.declared.weights.Weight.{Weight}
 use Rattle.coord_model.specs.declared.weights.Weights.{Weights}
@@ -21,15 +21,16 @@ leaf_weights weights = record { lambda = weights.lambda; rows = weights.rows.ite
 abbrev pub plain_weights : LeafWeights
 plain_weights = record { lambda = 1; rows = [] }
 
--- the weights may be used: at most 64, in the rising order of their rows, of rows of the case, each of at least 1
+-- the weights may be used: at most 64, in the rising order of their rows, of rows of the case, each from 1 to 2^32 - 1
 pub record AreUsable (case : Case) (rows : List Weight) : Type 0 where
   pub fit : AreLeafWeights rows
   pub named : All (λ w. w.row < length (rows_in case)) rows
 
--- the weights give boxes of the case a bound: those of rows are usable, and there is a lambda
+-- the weights give boxes of the case a bound: those of rows are usable, and lambda is from 1 to 2^32 - 1
 pub record CanBound (case : Case) (weights : LeafWeights) : Type 0 where
   pub usable : AreUsable case weights.rows
   pub some_lambda : 1 ≤ weights.lambda
+  pub small_lambda : weights.lambda ≤ 2 ^ 32 - 1
 
 -- the dual value of the box without the cost is above 0
 pub record ShowsVoid (case : Case) (box : Box) (rows : List Weight) : Type 0 where

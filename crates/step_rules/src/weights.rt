@@ -1,5 +1,5 @@
 //! Weights of a bound, as an adviser or a box before gives them.
-ghost use Rattle.std.specs.Prelude.{◌≡◌, ◌<◌, ◌≤◌, ◌↔◌, map, All, IfOk, IsTrue};
+ghost use Rattle.std.specs.Prelude.{◌≡◌, ◌-◌, ◌^◌, ◌<◌, ◌≤◌, ◌↔◌, map, All, IfOk, IsTrue};
 ghost use Rattle.std.specs.List.Sorted.{IsStrictlyIncreasing};
 ghost use Rattle.margin_rows.specs.Box.{FitsBox, HasNoEmptySpan};
 ghost use Rattle.step_rules.specs.Rules.{IsVoidBy};
@@ -33,19 +33,19 @@ pub fn copy(weights: &Weights) -> Result<Weights, NoMemory>
     })
 }
 
-/// Whether weights may be used: at most 64, in the rising order of their rows, of rows of the study, each of at least 1.
+/// Whether weights may be used: at most 64, in the rising order of their rows, of rows of the study, each from 1 to
+/// 2^32 - 1.
 pub fn are_usable(inst: &Instance, rows: &[Weight]) -> bool
     ensures { IsTrue result ↔ AreUsable inst.now rows.now }
 {
     rows.len() <= MOST_ROWS && are_named(rows, inst.rows().len()) && are_rising(rows)
 }
 
-/// Whether weights are of rows below a count, each of at least 1.
+/// Whether weights are of rows below a count, each from 1 to 2^32 - 1.
 fn are_named(rows: &[Weight], count: usize) -> bool
-    ensures { IsTrue result ↔ (All (λ w. 1 ≤ w.weight) rows.now × All (λ w. w.row < count) rows.now) }
+    ensures { IsTrue result ↔ (All (λ w. 1 ≤ w.weight) rows.now × All (λ w. w.weight ≤ 2 ^ 32 - 1) rows.now × All (λ w. w.row < count) rows.now) }
 {
-    rows.iter()
-        .all(|w| w.weight >= 1 && usize::from(w.row) < count)
+    rows.iter().all(|w| (1..=u32::MAX).contains(&w.weight) && usize::from(w.row) < count)
 }
 
 /// Whether weights are in the rising order of their rows.

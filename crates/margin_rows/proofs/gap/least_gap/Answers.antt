@@ -1,6 +1,7 @@
-use Rattle.std.proofs.Common.{◌+◌, ◌≤◌, ◌∙◌, ℕ, ap, sym, subst}
+use Rattle.std.proofs.Common.{◌+◌, ◌≤◌, ◌^◌, ◌∙◌, ℕ, ap, sym, subst}
 use Rattle.std.specs.Int.{div_ceil}
 use Rattle.margin_rows.specs.Price.{cost_of, lower_cost_of}
+use Rattle.margin_rows.proofs.SmallGaps.{width_sum_few}
 use Rattle.margin_rows.proofs.Widths.{gap_covers, sum_is_one}
 use Rattle.margin_rows.proofs.gap.least_gap.Goals as goal
 
@@ -12,3 +13,8 @@ returns-clause-covers c settings box =
     let case = c.args.inst.now in
     let P : ℕ → Type 0 = λ n. cost_of case settings ≤ lower_cost_of case settings + (n + 1) in
     subst P (sym c.div_ceil.ensures) (gap_covers case c.width_sum.result settings c.width_sum.ensures.exact box)
+
+pub returns-clause-small : goal.returns-clause-small
+returns-clause-small c =
+    let P : ℕ → Type 0 = λ n. n + 1 ≤ 10 ^ 12 in
+    subst P (sym c.div_ceil.ensures) (width_sum_few c.args.inst.now c.width_sum.result c.width_sum.ensures.fits c.width_sum.ensures.exact)

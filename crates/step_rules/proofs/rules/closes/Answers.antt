@@ -11,6 +11,6 @@ returns-then-can_bound c issued same =
     let weights = leaf_weights c.args.weights.now in
     let is = c.reaches.ensures case issued same in
     let can = c.can_bound.ensures.0 c.if-can_bound.true in (
-      λ holds. record { usable = can.usable; some_lambda = can.some_lambda; bound = c.bound_by.result; gives = c.bound_by.ensures; reaches = is.0 holds },
+      λ holds. record { can = can; bound = c.bound_by.result; gives = c.bound_by.ensures; reaches = is.0 holds },
       λ closes. is.1 (subst (λ (b : ℕ). Reaches case c.args.gap issued b) (bound_only case box weights closes.bound c.bound_by.result c.requires.fits c.requires.steps closes.gives c.bound_by.ensures) closes.reaches),
     )

@@ -26,6 +26,6 @@ returns c =
           state = start_state c.args.inst.now c.args.gap c.args.budget c.in_ok-first.first c.in_ok-tree.tree first.limits (covers c) c.requires.budget c.requires.budget_small first.fits first.ranges first.weights
               c.in_ok-tree.ensures.exact c.in_ok-tree.ensures.count;
         },
-        λ least is. omega (arith, c.least_gap-least.ensures.only least is, c.if-gap-least.false),
+        covers c,
       );
     }
