@@ -1,15 +1,17 @@
 //! Numbers at the end of a text.
-ghost use Rattle.std.specs.Prelude.{◌≡◌, ◌+◌, ◌-◌, ◌≤◌, ◌^◌, [], ◌∷◌, ◌++◌, OnOk, OnErr, take, length, vec_len};
+ghost use Rattle.std.specs.Prelude.{◌≡◌, ◌+◌, ◌-◌, ◌<◌, ◌≤◌, ◌^◌, [], ◌∷◌, ◌++◌, OnOk, OnErr, take, length, vec_len, vec_capacity};
 ghost use Rattle.std.specs.Fmt.{decimal, signed_decimal};
 ghost use Rattle.coord_text.specs.Numbers.{low_digits, fixed};
 
 use coord_model::NoMemory;
 use itoa::Buffer;
 
-/// Adds the digits of `n`. After `NoMemory` the text is as before.
+/// Adds the digits of `n`. After `NoMemory` the text is as before. Takes no memory where there is room.
 pub fn push_number(out: &mut Vec<u8>, n: u64) -> Result<(), NoMemory>
     ensures added { OnOk result (out.new.items ≡ out.old.items ++ decimal n) }
     ensures unchanged { OnErr result (out.new.items ≡ out.old.items) }
+    ensures capacity { vec_capacity out.old ≤ vec_capacity out.new }
+    ensures full { OnErr result (vec_capacity out.old < vec_len out.old + length (decimal n)) }
 {
     out.extend_from_slice(Buffer::new().format(n).as_bytes())?;
     Ok(())

@@ -10,18 +10,20 @@ use Rattle.coord_model.specs.Allowed.{AreOnSteps, IsOnSteps}
 use Rattle.coord_model.specs.Choice.{Settings}
 use Rattle.coord_model.specs.Limits.{FitsStudy}
 use Rattle.coord_model.specs.StudyData.{StudyData}
+use Rattle.coord_text.specs.Claims.{text_of}
 use Rattle.coord_text.proofs.Digits.{same_parts}
+use Rattle.coord_text.proofs.ClaimLines.{ending_is_line}
 use Rattle.settings_sheet.specs.RelayStops.{AreNames, RelayStop, first_lines}
 use Rattle.settings_sheet.specs.SheetData.{IsSheet, SheetData}
 use Rattle.settings_sheet.specs.SheetFaults.{StopsAt}
-use Rattle.settings_sheet.specs.SheetLines.{kind_at, relay_words, relay_words_at, settings_lines, sheet_lines, text_of, head_lines}
+use Rattle.settings_sheet.specs.SheetLines.{kind_at, relay_words, relay_words_at, settings_lines, sheet_lines, head_lines}
 use Rattle.settings_sheet.specs.SheetText.{sheet_text}
 use Rattle.settings_sheet.specs.Stages.{GoesOn, HasHead, HasSettings, LacksEnd}
 use Rattle.settings_sheet.specs.declared.head.Head.{Head}
 use Rattle.settings_sheet.specs.declared.refusal.SheetKind.{SheetKind}
 use Rattle.settings_sheet.proofs.Peeled.{AreFirst, AreLines, Peeled, peel, stops_here}
 use Rattle.settings_sheet.proofs.SameSettings.{same_settings}
-use Rattle.settings_sheet.proofs.Spelled.{bound_is_line, cost_is_line, ending_is_line, format_is_line}
+use Rattle.settings_sheet.proofs.Spelled.{bound_is_line, cost_is_line, format_is_line}
 use Rattle.settings_sheet.proofs.TailStops.{after_due, end_due, first_of_settings, lines_of_range, relay_due, same_head, there, words_are_line}
 
 -- lines that follow lines

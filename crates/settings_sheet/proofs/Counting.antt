@@ -7,9 +7,10 @@ use Rattle.std.proofs.lemmas.Option.{slice_get_read}
 use Rattle.coord_model.specs.Choice.{Settings}
 use Rattle.coord_model.specs.StudyData.{StudyData}
 use Rattle.coord_model.specs.declared.study.Relay.{Relay}
+use Rattle.coord_text.specs.Claims.{ended, text_of}
+use Rattle.coord_text.proofs.TextSteps.{text_more}
 use Rattle.settings_sheet.specs.RelayStops.{first_lines}
-use Rattle.settings_sheet.specs.SheetLines.{ended, relay_words, relay_words_at, text_of}
-use Rattle.settings_sheet.proofs.Settled.{text_more}
+use Rattle.settings_sheet.specs.SheetLines.{relay_words, relay_words_at}
 
 -- the line of a relay, as it is read by its number
 words_read : (study : StudyData) (settings : Settings) (i p d : ℕ) (relay : Relay)

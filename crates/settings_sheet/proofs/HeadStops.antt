@@ -11,13 +11,16 @@ use Rattle.coord_model.specs.StudyData.{StudyData}
 use Rattle.coord_model.specs.declared.choice.Ending.{Ending}
 use Rattle.coord_model.specs.declared.choice.Ending.TheVariants.{Closed, NoSettings, BudgetSpent, Hairline}
 use Rattle.coord_model.specs.declared.study.Relay.{Relay}
-use Rattle.settings_sheet.specs.SheetData.{BoundGoesWith, CostGoesWith, IsSheet, IsShort, SheetData}
+use Rattle.coord_text.specs.Claims.{BoundGoesWith, CostGoesWith, IsShort, amount, ending_word, text_of}
+use Rattle.coord_text.proofs.SameWords.{same_ending}
+use Rattle.coord_text.proofs.ClaimLines.{ending_is_line}
+use Rattle.coord_text.proofs.TextSteps.{text_step}
+use Rattle.settings_sheet.specs.SheetData.{IsSheet, SheetData}
 use Rattle.settings_sheet.specs.SheetFaults.{StopsAt}
-use Rattle.settings_sheet.specs.SheetLines.{settings_lines, sheet_lines, text_of, amount, ending_word}
+use Rattle.settings_sheet.specs.SheetLines.{settings_lines, sheet_lines}
 use Rattle.settings_sheet.specs.declared.refusal.SheetKind.TheVariants as due
 use Rattle.settings_sheet.proofs.Peeled.{stops_here}
-use Rattle.settings_sheet.proofs.Settled.{text_step}
-use Rattle.settings_sheet.proofs.Spelled.{cost_is_line, ending_is_line, format_is_line, same_ending}
+use Rattle.settings_sheet.proofs.Spelled.{cost_is_line, format_is_line}
 
 -- the lowest settings of a study
 abbrev pub lowest : StudyData → Settings

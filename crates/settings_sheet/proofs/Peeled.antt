@@ -1,10 +1,11 @@
 use Rattle.std.proofs.Common.{◌≡◌, ◌≢◌, ℕ, ◌+◌, List, [], ◌∷◌, ◌++◌, length, refl, sym, ap, ◌∙◌, append-nil, append_assoc, length-append, arith}
 use Rattle.coord_model.specs.StudyData.{StudyData}
+use Rattle.coord_text.specs.Claims.{text_of}
 use Rattle.coord_text.specs.Lines.{IsLine}
 use Rattle.coord_text.proofs.Breaks.{same_first_line}
 use Rattle.settings_sheet.specs.SheetData.{IsSheet, SheetData}
 use Rattle.settings_sheet.specs.SheetFaults.{StopsAt}
-use Rattle.settings_sheet.specs.SheetLines.{kind_at, sheet_lines, text_of}
+use Rattle.settings_sheet.specs.SheetLines.{kind_at, sheet_lines}
 use Rattle.settings_sheet.specs.declared.refusal.SheetKind.{SheetKind}
 
 -- each is a line

@@ -1,10 +1,9 @@
-use Rattle.std.proofs.Common.{◌≡◌, ◌≢◌, ◌⊎◌, inl, inr, ℕ, ◌+◌, ◌<◌, ◌==◌, Bool, true, false, Some, List, [], ◌∷◌, ◌++◌, length, map, refl, sym, ap, subst, ◌∙◌, append-nil, append_assoc, arith}
+use Rattle.std.proofs.Common.{◌≡◌, ◌≢◌, ◌⊎◌, inl, inr, ℕ, ◌+◌, ◌<◌, ◌==◌, Bool, true, false, Some, List, [], ◌∷◌, ◌++◌, length, map, refl, sym, ap, subst, ◌∙◌, arith}
 use Rattle.std.specs.List.{range_with_len}
 use Rattle.std.specs.Option.{option_map_or}
 use Rattle.std.specs.Prelude.{IfSome, slice_get, slice_index}
 use Rattle.std.proofs.Math.ListN.{set, length-set}
 use Rattle.std.proofs.lemmas.Bool.Decides.{nat_tests}
-use Rattle.std.proofs.lemmas.Grind.{flat_map-append}
 use Rattle.std.proofs.lemmas.List.{get_or-set_other, get_or-set_same, same_lists}
 use Rattle.std.proofs.lemmas.List.FromFn.{get_or-map-range_with_len, length-map-range_with_len, map-range_with_len_more}
 use Rattle.coord_model.specs.Allowed.{AreOnSteps, IsOnSteps}
@@ -12,7 +11,7 @@ use Rattle.coord_model.specs.Choice.{Settings}
 use Rattle.coord_model.specs.StudyData.{StudyData}
 use Rattle.coord_model.specs.declared.study.Relay.{Relay}
 use Rattle.settings_sheet.specs.RelayStops.{first_lines}
-use Rattle.settings_sheet.specs.SheetLines.{relay_words, relay_words_at, text_of}
+use Rattle.settings_sheet.specs.SheetLines.{relay_words, relay_words_at}
 
 -- two numbers are the same or not
 by_test : (t : Bool) (i j : ℕ) → (i == j) ≡ t → (i ≡ j) ⊎ (i ≢ j)
@@ -83,12 +82,3 @@ module _ (study : StudyData) (settings : Settings) (i pickup dial : ℕ) (relay 
         let new = relay_words_at study (with_steps settings i pickup dial) in
         map-range_with_len_more new 0 i i (omega arith) ∙ ap (λ l. l ++ new i ∷ []) (same_maps new (relay_words_at study settings) i line_kept)
         ∙ ap (λ w. first_lines study settings i ++ w ∷ []) line_new
-
--- one line more
-pub text_more : (lines : List (List ℕ)) (line : List ℕ) → text_of (lines ++ line ∷ []) ≡ text_of lines ++ (line ++ 10 ∷ [])
-text_more lines line = flat_map-append (λ l. l ++ 10 ∷ []) lines (line ∷ []) ∙ ap (λ w. text_of lines ++ w) (append-nil (line ++ 10 ∷ []))
-
--- and what follows it
-pub text_step : (lines : List (List ℕ)) (line rest : List ℕ) → text_of (lines ++ line ∷ []) ++ rest ≡ text_of lines ++ (line ++ 10 ∷ rest)
-text_step lines line rest =
-    ap (λ w. w ++ rest) (text_more lines line) ∙ append_assoc (text_of lines) (line ++ 10 ∷ []) rest ∙ ap (λ w. text_of lines ++ w) (append_assoc line (10 ∷ []) rest)

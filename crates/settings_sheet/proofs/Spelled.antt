@@ -1,10 +1,9 @@
-use Rattle.std.proofs.Common.{◌≡◌, ◌≢◌, ℕ, ◌+◌, ◌-◌, ◌/◌, ◌^◌, ◌<◌, ◌≤◌, ◌==◌, ◌&&◌, Bool, true, false, not, cond, nat_le, Option, Some, None, List, [], ◌∷◌, ◌++◌, length, arith, refl, sym, ap, ◌∙◌, length-append}
-use Rattle.std.specs.Fmt.{decimal}
+use Rattle.std.proofs.Common.{◌≡◌, ℕ, ◌-◌, ◌/◌, ◌^◌, ◌<◌, ◌≤◌, ◌==◌, ◌&&◌, Bool, true, false, not, cond, nat_le, Option, List, [], ◌∷◌, ◌++◌, length, arith, refl, ap, ◌∙◌, length-append}
 use Rattle.std.specs.List.{list_all, take_while}
 use Rattle.std.specs.Prelude.{codes}
 use Rattle.std.proofs.Math.Nat.{div-le_self, mul-le-mul_right}
 use Rattle.std.proofs.lemmas.Bool.Decides.{nat_tests}
-use Rattle.std.proofs.lemmas.Fmt.{decimal_injective, length-decimal-le}
+use Rattle.std.proofs.lemmas.Fmt.{length-decimal-le}
 use Rattle.std.proofs.lemmas.List.{append_cancel_left}
 use Rattle.std.proofs.lemmas.List.Folds.{list_all-append}
 use Rattle.std.proofs.lemmas.List.Sums.{take_while-cons}
@@ -13,16 +12,15 @@ use Rattle.coord_model.specs.PartLimits.{FitsRelay}
 use Rattle.coord_model.specs.Name.{IsName, is_name_byte}
 use Rattle.coord_model.specs.StudyData.{StudyData}
 use Rattle.coord_model.specs.Time.{plug_at, dial_at}
-use Rattle.coord_model.specs.declared.choice.Ending.{Ending}
-use Rattle.coord_model.specs.declared.choice.Ending.TheVariants.{Closed, NoSettings, BudgetSpent, Hairline}
 use Rattle.coord_model.specs.declared.study.Relay.{Relay}
+use Rattle.coord_text.specs.Claims.{IsShort, amount}
 use Rattle.coord_text.specs.Lines.{IsLine, is_printable}
 use Rattle.coord_text.specs.Numbers.{fixed}
 use Rattle.coord_text.proofs.Breaks.{both_pass, same_cut, same_first_line}
-use Rattle.coord_text.proofs.Digits.{decimal-pass, fixed-pass, length-fixed}
+use Rattle.coord_text.proofs.ClaimLines.{amount_is_line, digit_prints}
+use Rattle.coord_text.proofs.Digits.{fixed-pass, length-fixed}
 use Rattle.settings_sheet.specs.RelayStops.{HasNoSpace}
-use Rattle.settings_sheet.specs.SheetData.{IsShort}
-use Rattle.settings_sheet.specs.SheetLines.{relay_words, amount, ending_word}
+use Rattle.settings_sheet.specs.SheetLines.{relay_words}
 
 -- the lines without values
 pub format_is_line : IsLine (codes "coord-sheet 1")
@@ -30,28 +28,6 @@ format_is_line = record { short = omega arith; printable = refl }
 
 pub end_is_line : IsLine (codes "end")
 end_is_line = record { short = omega arith; printable = refl }
-
--- the line of an ending
-pub ending_is_line : (ending : Ending) → IsLine (codes "ending " ++ ending_word ending)
-ending_is_line Closed = record { short = omega arith; printable = refl }
-ending_is_line NoSettings = record { short = omega arith; printable = refl }
-ending_is_line BudgetSpent = record { short = omega arith; printable = refl }
-ending_is_line Hairline = record { short = omega arith; printable = refl }
-
--- every digit is printable
-digit_prints : (b : ℕ) → b < 10 → is_printable (48 + b) ≡ true
-digit_prints b small = grind (arith, nat_tests)
-
--- an amount behind a label is a line
-amount_is_line : (label : List ℕ) → length label ≤ 100 → list_all is_printable label ≡ true → (n : Option ℕ) → IsShort n → IsLine (label ++ amount n)
-amount_is_line label few prints None short = record {
-  short = omega (arith, length-append label (codes "none"));
-  printable = rw (list_all-append is_printable label (codes "none"), prints) refl;
-}
-amount_is_line label few prints (Some n) short = record {
-  short = omega (arith, length-append label (decimal n), length-decimal-le 16 n (omega arith) short (omega arith));
-  printable = rw (list_all-append is_printable label (decimal n), prints, decimal-pass is_printable digit_prints n (omega arith)) refl;
-}
 
 pub cost_is_line : (n : Option ℕ) → IsShort n → IsLine (codes "cost " ++ amount n)
 cost_is_line = amount_is_line (codes "cost ") (omega arith) refl
@@ -64,38 +40,6 @@ pub same_word : (label word other rest left : List ℕ) → IsLine (label ++ wor
     → (label ++ word) ++ 10 ∷ rest ≡ (label ++ other) ++ 10 ∷ left → word ≡ other
 same_word label word other rest left of_word of_other same =
     append_cancel_left label word other (same_first_line (label ++ word) (label ++ other) rest left of_word of_other same).0
-
--- an ending has a word of its own
-pub same_ending : (e f : Ending) → ending_word e ≡ ending_word f → e ≡ f
-same_ending Closed Closed h = refl
-same_ending Closed NoSettings h = absurd (cc)
-same_ending Closed BudgetSpent h = absurd (cc)
-same_ending Closed Hairline h = absurd (cc)
-same_ending NoSettings Closed h = absurd (cc)
-same_ending NoSettings NoSettings h = refl
-same_ending NoSettings BudgetSpent h = absurd (cc)
-same_ending NoSettings Hairline h = absurd (cc)
-same_ending BudgetSpent Closed h = absurd (cc)
-same_ending BudgetSpent NoSettings h = absurd (cc)
-same_ending BudgetSpent BudgetSpent h = refl
-same_ending BudgetSpent Hairline h = absurd (cc)
-same_ending Hairline Closed h = absurd (cc)
-same_ending Hairline NoSettings h = absurd (cc)
-same_ending Hairline BudgetSpent h = absurd (cc)
-same_ending Hairline Hairline h = refl
-
--- `none` is no number
-none_is_no_number : (n : ℕ) → n < 10 ^ 16 → codes "none" ≢ decimal n
-none_is_no_number n short h =
-    let digits : list_all (λ b. not (b == 110)) (decimal n) ≡ true = decimal-pass (λ b. not (b == 110)) (λ b small. grind (arith, nat_tests)) n (omega arith) in
-    cc (ap (list_all (λ b. not (b == 110))) h, digits)
-
--- an amount has a word of its own
-pub same_amount : (m n : Option ℕ) → IsShort m → IsShort n → amount m ≡ amount n → m ≡ n
-same_amount None None of_m of_n h = refl
-same_amount None (Some n) of_m of_n h = absurd (none_is_no_number n of_n h)
-same_amount (Some m) None of_m of_n h = absurd (none_is_no_number m of_m (sym h))
-same_amount (Some m) (Some n) of_m of_n h = ap Some (decimal_injective m n (omega arith) (omega arith) h)
 
 -- a plug and a dial of a relay lie within the limits
 pub plug_within : (study : StudyData) (relay : Relay) → FitsRelay study relay → (step : ℕ) → step < relay.plug_count → plug_at relay step ≤ 10000

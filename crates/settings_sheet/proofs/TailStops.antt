@@ -12,14 +12,16 @@ use Rattle.coord_model.specs.Name.{IsName}
 use Rattle.coord_model.specs.StudyData.{StudyData}
 use Rattle.coord_model.specs.declared.choice.Ending.{Ending}
 use Rattle.coord_model.specs.declared.study.Relay.{Relay}
+use Rattle.coord_text.specs.Claims.{IsShort, amount, ending_word}
 use Rattle.coord_text.specs.Lines.{IsLine}
 use Rattle.settings_sheet.specs.RelayStops.{HasNamesBelow}
-use Rattle.settings_sheet.specs.SheetData.{IsSheet, IsShort, SheetData}
-use Rattle.settings_sheet.specs.SheetLines.{kind_at, relay_words, relay_words_at, settings_lines, sheet_lines, amount, ending_word, head_lines}
+use Rattle.coord_text.proofs.SameWords.{same_amount, same_ending}
+use Rattle.settings_sheet.specs.SheetData.{IsSheet, SheetData}
+use Rattle.settings_sheet.specs.SheetLines.{kind_at, relay_words, relay_words_at, settings_lines, sheet_lines, head_lines}
 use Rattle.settings_sheet.specs.declared.refusal.SheetKind.TheVariants as due
 use Rattle.settings_sheet.proofs.HeadStops.{relay_fits}
 use Rattle.settings_sheet.proofs.Peeled.{AreFirst, AreLines}
-use Rattle.settings_sheet.proofs.Spelled.{end_is_line, relay_is_line, same_amount, same_ending}
+use Rattle.settings_sheet.proofs.Spelled.{end_is_line, relay_is_line}
 
 -- no byte is a line too
 empty_is_line : IsLine []

@@ -5,7 +5,8 @@ use Rattle.coord_model.specs.Allowed.{AreOnSteps, IsOnSteps}
 use Rattle.coord_model.specs.Choice.{Settings}
 use Rattle.coord_model.specs.Name.{IsName}
 use Rattle.coord_model.specs.StudyData.{StudyData}
-use Rattle.settings_sheet.specs.SheetLines.{relay_words, relay_words_at, text_of}
+use Rattle.coord_text.specs.Claims.{text_of}
+use Rattle.settings_sheet.specs.SheetLines.{relay_words, relay_words_at}
 use Rattle.settings_sheet.specs.declared.refusal.SheetKind.{SheetKind}
 use Rattle.settings_sheet.specs.declared.refusal.SheetKind.TheVariants as due
 use Rattle.settings_sheet.specs.declared.refusal.SheetRefusal.{SheetRefusal}

@@ -1,9 +1,10 @@
 -- Where a text stops being a settings sheet of a study (ours).
 use Rattle.std.specs.Prelude.{◌≡◌, ◌≢◌, ℕ, ◌+◌, List, [], ◌∷◌, ◌++◌, length}
 use Rattle.coord_model.specs.StudyData.{StudyData}
+use Rattle.coord_text.specs.Claims.{text_of}
 use Rattle.coord_text.specs.Lines.{IsLine}
 use Rattle.settings_sheet.specs.SheetData.{IsSheet, SheetData}
-use Rattle.settings_sheet.specs.SheetLines.{kind_at, sheet_lines, text_of}
+use Rattle.settings_sheet.specs.SheetLines.{kind_at, sheet_lines}
 use Rattle.settings_sheet.specs.SheetText.{sheet_text}
 use Rattle.settings_sheet.specs.declared.refusal.SheetKind.{SheetKind}
 use Rattle.settings_sheet.specs.declared.refusal.SheetRefusal.{SheetRefusal}

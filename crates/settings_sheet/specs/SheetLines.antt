@@ -1,38 +1,17 @@
 -- The lines of a settings sheet (ours), and what stands at each.
 use Rattle.std.specs.Prelude.{ℕ, ◌+◌, ◌==◌, nat_le, Option, Some, None, List, [], ◌∷◌, ◌++◌, codes, length, map, slice_get, slice_index, if◌then◌else◌}
-use Rattle.std.specs.Fmt.{decimal}
-use Rattle.std.specs.List.{flat_map}
 use Rattle.std.specs.Option.{option_map_or}
 use Rattle.coord_model.specs.Choice.{Settings}
 use Rattle.coord_model.specs.Pairs.{relay_numbers}
 use Rattle.coord_model.specs.StudyData.{StudyData}
 use Rattle.coord_model.specs.Time.{plug_at, dial_at}
 use Rattle.coord_model.specs.declared.choice.Ending.{Ending}
-use Rattle.coord_model.specs.declared.choice.Ending.TheVariants.{Closed, NoSettings, BudgetSpent, Hairline}
 use Rattle.coord_model.specs.declared.study.Relay.{Relay}
+use Rattle.coord_text.specs.Claims.{amount, ending_word}
 use Rattle.coord_text.specs.Numbers.{fixed}
 use Rattle.settings_sheet.specs.SheetData.{SheetData}
 use Rattle.settings_sheet.specs.declared.refusal.SheetKind.{SheetKind}
 use Rattle.settings_sheet.specs.declared.refusal.SheetKind.TheVariants as due
-
--- a line with its line feed, and lines, each with its own
-abbrev pub ended : List ℕ → List ℕ
-ended line = line ++ codes "\n"
-
-abbrev pub text_of : List (List ℕ) → List ℕ
-text_of lines = flat_map ended lines
-
--- the ending in a word
-abbrev pub ending_word : Ending → List ℕ
-ending_word Closed = codes "closed"
-ending_word NoSettings = codes "no-settings"
-ending_word BudgetSpent = codes "budget-spent"
-ending_word Hairline = codes "hairline"
-
--- a number in digits, or `none`
-abbrev pub amount : Option ℕ → List ℕ
-amount None = codes "none"
-amount (Some n) = decimal n
 
 -- the lines before the settings
 abbrev pub head_lines : Ending → Option ℕ → Option ℕ → List (List ℕ)

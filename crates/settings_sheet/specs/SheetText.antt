@@ -2,9 +2,10 @@
 use Rattle.std.specs.Prelude.{ℕ, Some, List}
 use Rattle.coord_model.specs.Choice.{Settings}
 use Rattle.coord_model.specs.StudyData.{StudyData}
-use Rattle.settings_sheet.specs.SheetLines.{settings_lines, sheet_lines, text_of}
+use Rattle.coord_text.specs.Claims.{text_of}
+use Rattle.settings_sheet.specs.SheetLines.{settings_lines, sheet_lines}
+pub use Rattle.coord_text.specs.Claims.{amount}
 pub use Rattle.settings_sheet.specs.SheetData.{IsSheet, SheetData, sheet_data}
-pub use Rattle.settings_sheet.specs.SheetLines.{amount}
 
 -- the text of the relays' lines
 unfoldable pub relay_lines : StudyData → Settings → List ℕ

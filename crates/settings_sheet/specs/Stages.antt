@@ -3,9 +3,9 @@ use Rattle.std.specs.Prelude.{◌≡◌, ◌≢◌, ◌⊎◌, ℕ, ◌+◌, Opt
 use Rattle.coord_model.specs.Allowed.{AreOnSteps}
 use Rattle.coord_model.specs.Choice.{Settings}
 use Rattle.coord_model.specs.StudyData.{StudyData}
+use Rattle.coord_text.specs.Claims.{BoundGoesWith, CostGoesWith, IsShort, text_of}
 use Rattle.settings_sheet.specs.RelayStops.{AreNames}
-use Rattle.settings_sheet.specs.SheetData.{BoundGoesWith, CostGoesWith, IsShort}
-use Rattle.settings_sheet.specs.SheetLines.{head_lines, settings_lines, text_of}
+use Rattle.settings_sheet.specs.SheetLines.{head_lines, settings_lines}
 use Rattle.settings_sheet.specs.declared.head.Head.{Head}
 use Rattle.settings_sheet.specs.declared.refusal.SheetKind.{SheetKind}
 use Rattle.settings_sheet.specs.declared.refusal.SheetKind.TheVariants as due

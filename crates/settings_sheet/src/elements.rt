@@ -2,16 +2,12 @@
 //!
 //! Each takes what is left of a text and answers what its first line says, with what follows it. `None`: the first
 //! line isn't one of this kind.
-ghost use Rattle.std.specs.Prelude.{◌≡◌, ◌≢◌, ℕ, List, ◌∷◌, ◌++◌, Option, codes, IfSome, IsNone, IsTrue};
+ghost use Rattle.std.specs.Prelude.{◌≡◌, ◌≢◌, ℕ, List, ◌∷◌, ◌++◌, Option, codes, IfSome, IsNone};
+ghost use Rattle.coord_text.specs.Claims.{BoundGoesWith, CostGoesWith, IsShort, amount, ending_word};
 ghost use Rattle.coord_text.specs.Lines.{IsLine};
-ghost use Rattle.settings_sheet.specs.SheetData.{BoundGoesWith, CostGoesWith, IsShort};
-ghost use Rattle.settings_sheet.specs.SheetLines.{amount, ending_word};
 
 use coord_model::Ending;
-use coord_text::{read_number, split_line};
-
-/// The most that a cost or a bound is: 16 digits.
-const MOST: u64 = 9_999_999_999_999_999;
+use coord_text::{bound_goes_with, cost_goes_with, read_amount, split_line};
 
 /// What follows the line of the format.
 pub fn read_format(left: &[u8]) -> Option<&[u8]>
@@ -32,7 +28,7 @@ pub fn read_ending(left: &[u8]) -> Option<(Ending, &[u8])>
     ensures no_such { IsNone result → (ending : Ending) (rest : List ℕ) → left.now ≢ (codes "ending " ++ ending_word ending) ++ 10 ∷ rest }
 {
     let (word, rest) = read_labelled(left, b"ending ")?;
-    Some((ending_of(word)?, rest))
+    Some((coord_text::read_ending(word)?, rest))
 }
 
 /// The cost in weighted microseconds, where it goes with the ending, and what follows its line.
@@ -44,7 +40,7 @@ pub fn read_cost(left: &[u8], ending: Ending) -> Option<(Option<u64>, &[u8])>
         → left.now ≢ (codes "cost " ++ amount cost) ++ 10 ∷ rest }
 {
     let (word, rest) = read_labelled(left, b"cost ")?;
-    let cost = amount_of(word)?;
+    let cost = read_amount(word)?;
     if cost_goes_with(ending, cost) {
         Some((cost, rest))
     } else {
@@ -61,7 +57,7 @@ pub fn read_bound(left: &[u8], ending: Ending) -> Option<(Option<u64>, &[u8])>
         → left.now ≢ (codes "bound " ++ amount bound) ++ 10 ∷ rest }
 {
     let (word, rest) = read_labelled(left, b"bound ")?;
-    let bound = amount_of(word)?;
+    let bound = read_amount(word)?;
     if bound_goes_with(ending, bound) {
         Some((bound, rest))
     } else {
@@ -90,61 +86,4 @@ fn read_labelled<'a>(left: &'a [u8], label: &[u8]) -> Option<(&'a [u8], &'a [u8]
 {
     let (line, rest) = split_line(left)?;
     Some((line.strip_prefix(label)?, rest))
-}
-
-/// The ending that the word names.
-fn ending_of(word: &[u8]) -> Option<Ending>
-    ensures named { IfSome result (λ ending. word.now ≡ ending_word ending) }
-    ensures no_such { IsNone result → (ending : Ending) → word.now ≢ ending_word ending }
-{
-    if word == b"closed".as_slice() {
-        return Some(Ending::Closed);
-    }
-    if word == b"no-settings".as_slice() {
-        return Some(Ending::NoSettings);
-    }
-    if word == b"budget-spent".as_slice() {
-        return Some(Ending::BudgetSpent);
-    }
-    if word == b"hairline".as_slice() {
-        Some(Ending::Hairline)
-    } else {
-        None
-    }
-}
-
-/// The number of at most 16 digits that the word spells, or `Some(None)` for `none`.
-fn amount_of(word: &[u8]) -> Option<Option<u64>>
-    ensures spelled { IfSome result (λ n. word.now ≡ amount n) }
-    ensures short { IfSome result (λ n. IsShort n) }
-    ensures no_such { IsNone result → (n : Option ℕ) → IsShort n → word.now ≢ amount n }
-{
-    if word == b"none".as_slice() {
-        return Some(None);
-    }
-    let n = read_number(word, MOST)?;
-    Some(Some(n))
-}
-
-/// Whether the cost goes with the ending.
-fn cost_goes_with(ending: Ending, cost: Option<u64>) -> bool
-    ensures yes { IsTrue result → CostGoesWith ending cost }
-    ensures no { CostGoesWith ending cost → IsTrue result }
-{
-    match ending {
-        Ending::Closed => cost.is_some(),
-        Ending::NoSettings => cost.is_none(),
-        Ending::BudgetSpent | Ending::Hairline => true,
-    }
-}
-
-/// Whether the bound goes with the ending.
-fn bound_goes_with(ending: Ending, bound: Option<u64>) -> bool
-    ensures yes { IsTrue result → BoundGoesWith ending bound }
-    ensures no { BoundGoesWith ending bound → IsTrue result }
-{
-    match ending {
-        Ending::NoSettings => bound.is_none(),
-        Ending::Closed | Ending::BudgetSpent | Ending::Hairline => bound.is_some(),
-    }
 }

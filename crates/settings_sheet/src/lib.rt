@@ -14,11 +14,12 @@ mod relay_lines;
 mod sheet;
 mod text;
 
+pub use coord_text::push_amount;
 pub use lines::push_relay_lines;
 pub use reader::read_sheet;
 pub use refusal::{SheetKind, SheetRefusal};
 pub use sheet::Sheet;
-pub use text::{push_amount, sheet_bytes};
+pub use text::sheet_bytes;
 
 #[cfg(test)]
 mod tests;

@@ -5,7 +5,8 @@ ghost use Rattle.coord_model.specs.Choice.{choice_data};
 ghost use Rattle.coord_model.specs.Limits.{FitsStudy};
 ghost use Rattle.coord_model.specs.PartLimits.{FitsRelay};
 ghost use Rattle.coord_model.specs.StudyData.{study_data};
-ghost use Rattle.settings_sheet.specs.SheetLines.{ended, relay_words};
+ghost use Rattle.coord_text.specs.Claims.{ended};
+ghost use Rattle.settings_sheet.specs.SheetLines.{relay_words};
 ghost use Rattle.settings_sheet.specs.SheetText.{relay_lines};
 
 use coord_model::{Choice, NoMemory, Relay, Study};

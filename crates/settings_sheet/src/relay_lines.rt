@@ -7,8 +7,9 @@ ghost use Rattle.coord_model.specs.PartLimits.{FitsRelay};
 ghost use Rattle.coord_model.specs.Limits.{FitsStudy};
 ghost use Rattle.coord_model.specs.Name.{IsName};
 ghost use Rattle.coord_model.specs.StudyData.{StudyData, study_data};
+ghost use Rattle.coord_text.specs.Claims.{text_of};
 ghost use Rattle.settings_sheet.specs.RelayStops.{AreNames, HasNoSpace, IsRelayStop};
-ghost use Rattle.settings_sheet.specs.SheetLines.{relay_words, settings_lines, text_of};
+ghost use Rattle.settings_sheet.specs.SheetLines.{relay_words, settings_lines};
 
 use crate::refusal::{SheetKind, SheetRefusal, fault};
 use coord_model::{Choice, Relay, Study};

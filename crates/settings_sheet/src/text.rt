@@ -1,17 +1,18 @@
 //! The text of a settings sheet.
-ghost use Rattle.std.specs.Prelude.{◌≡◌, ◌++◌, codes, IfOk, IfSome, OnErr, OnOk};
+ghost use Rattle.std.specs.Prelude.{◌≡◌, ◌++◌, codes, IfOk, IfSome, OnOk};
 ghost use Rattle.std.specs.Option.{option_map};
 ghost use Rattle.coord_model.specs.Allowed.{AreOnSteps};
 ghost use Rattle.coord_model.specs.Choice.{choice_data};
 ghost use Rattle.coord_model.specs.Limits.{FitsStudy};
 ghost use Rattle.coord_model.specs.StudyData.{study_data};
-ghost use Rattle.settings_sheet.specs.SheetLines.{amount, ended, ending_word, head_lines, settings_lines, text_of};
+ghost use Rattle.coord_text.specs.Claims.{amount, ended, ending_word, text_of};
+ghost use Rattle.settings_sheet.specs.SheetLines.{head_lines, settings_lines};
 ghost use Rattle.settings_sheet.specs.SheetText.{IsSheet, sheet_data, sheet_text};
 
 use crate::lines::push_relay_lines;
 use crate::sheet::Sheet;
-use coord_model::{Choice, Ending, NoMemory, Study};
-use coord_text::push_number;
+use coord_model::{Choice, NoMemory, Study};
+use coord_text::{ending_word, push_amount};
 use std::alloc::Global;
 
 /// The text of a sheet of the study.
@@ -32,7 +33,7 @@ fn push_head(out: &mut Vec<u8>, sheet: &Sheet) -> Result<(), NoMemory>
     ensures { OnOk result (out.new.items ≡ out.old.items ++ text_of (head_lines sheet.now.ending sheet.now.cost sheet.now.bound)) }
 {
     push_labelled(out, b"coord-sheet ", b"1")?;
-    push_labelled(out, b"ending ", word(sheet.ending))?;
+    push_labelled(out, b"ending ", ending_word(sheet.ending))?;
     push_labelled_amount(out, b"cost ", sheet.cost)?;
     push_labelled_amount(out, b"bound ", sheet.bound)?;
     Ok(())
@@ -69,27 +70,4 @@ fn push_labelled_amount(out: &mut Vec<u8>, label: &[u8], n: Option<u64>) -> Resu
     push_amount(out, n)?;
     out.extend_from_slice(b"\n")?;
     Ok(())
-}
-
-/// The word for an ending.
-fn word(ending: Ending) -> &'static [u8]
-    ensures { result.now ≡ ending_word ending }
-{
-    match ending {
-        Ending::Closed => b"closed",
-        Ending::NoSettings => b"no-settings",
-        Ending::BudgetSpent => b"budget-spent",
-        Ending::Hairline => b"hairline",
-    }
-}
-
-/// Adds a number in digits, or `none`. After `NoMemory` the text is as before.
-pub fn push_amount(out: &mut Vec<u8>, n: Option<u64>) -> Result<(), NoMemory>
-    ensures added { OnOk result (out.new.items ≡ out.old.items ++ amount n) }
-    ensures unchanged { OnErr result (out.new.items ≡ out.old.items) }
-{
-    match n {
-        Some(n) => push_number(out, n),
-        None => Ok(out.extend_from_slice(b"none")?),
-    }
 }

@@ -1,8 +1,8 @@
 use Rattle.std.proofs.Common.{refl, sym, ◌∙◌, subst}
 use Rattle.std.specs.Prelude.{codes}
-use Rattle.settings_sheet.specs.SheetData.{CostGoesWith}
-use Rattle.settings_sheet.specs.SheetLines.{amount}
-use Rattle.settings_sheet.proofs.Spelled.{cost_is_line, same_amount, same_word}
+use Rattle.coord_text.specs.Claims.{CostGoesWith, amount}
+use Rattle.coord_text.proofs.SameWords.{same_amount}
+use Rattle.settings_sheet.proofs.Spelled.{cost_is_line, same_word}
 use Rattle.settings_sheet.proofs.elements.read_cost.Goals as goal
 
 pub returns-in_err-word-clause-no_such : goal.returns-in_err-word-clause-no_such

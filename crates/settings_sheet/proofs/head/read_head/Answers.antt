@@ -1,7 +1,7 @@
 use Rattle.std.proofs.Common.{[], ◌∷◌, ◌++◌, refl, sym, subst}
 use Rattle.std.specs.Prelude.{codes}
+use Rattle.coord_text.specs.Claims.{amount, ending_word}
 use Rattle.settings_sheet.specs.SheetFaults.{IsRefusalOf}
-use Rattle.settings_sheet.specs.SheetLines.{amount, ending_word}
 use Rattle.settings_sheet.proofs.HeadStops.{bound_stops, cost_stops, ending_stops, format_stops, said_more}
 use Rattle.settings_sheet.proofs.head.read_head.Goals as goal
 

@@ -1,8 +1,8 @@
 use Rattle.std.proofs.Common.{◌≡◌, length, arith, subst, ◌++◌}
 use Rattle.coord_model.specs.Choice.{choice_data}
 use Rattle.coord_model.specs.StudyData.{study_data}
+use Rattle.coord_text.specs.Claims.{text_of}
 use Rattle.settings_sheet.specs.RelayStops.{first_lines}
-use Rattle.settings_sheet.specs.SheetLines.{text_of}
 use Rattle.settings_sheet.specs.SheetText.{relay_lines}
 use Rattle.settings_sheet.proofs.Counting.{line_pushed}
 use Rattle.settings_sheet.proofs.lines.push_relay_lines.Goals as goal

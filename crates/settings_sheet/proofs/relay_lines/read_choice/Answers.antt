@@ -5,9 +5,11 @@ use Rattle.coord_model.specs.Allowed.{IsOnSteps}
 use Rattle.coord_model.specs.Choice.{choice_data}
 use Rattle.coord_model.specs.Name.{IsName}
 use Rattle.coord_model.specs.StudyData.{study_data}
+use Rattle.coord_text.specs.Claims.{text_of}
+use Rattle.coord_text.proofs.TextSteps.{text_step}
 use Rattle.settings_sheet.specs.RelayStops.{IsRelayStop, first_lines}
-use Rattle.settings_sheet.specs.SheetLines.{relay_words, text_of}
-use Rattle.settings_sheet.proofs.Settled.{lines_put, steps_put, text_step}
+use Rattle.settings_sheet.specs.SheetLines.{relay_words}
+use Rattle.settings_sheet.proofs.Settled.{lines_put, steps_put}
 use Rattle.settings_sheet.proofs.relay_lines.read_choice.Goals as goal
 
 pub returns-in_default-clause-stops : goal.returns-in_default-clause-stops

@@ -2,8 +2,8 @@ use Rattle.std.proofs.Common.{◌≡◌, ◌++◌}
 use Rattle.coord_model.specs.Allowed.{AreOnSteps}
 use Rattle.coord_model.specs.Choice.{choice_data}
 use Rattle.coord_model.specs.StudyData.{study_data}
+use Rattle.coord_text.specs.Claims.{text_of}
 use Rattle.settings_sheet.specs.RelayStops.{HasNamesBelow, first_lines}
-use Rattle.settings_sheet.specs.SheetLines.{text_of}
 use Rattle.settings_sheet.proofs.relay_lines.read_choice.Given as goal
 
 abbrev pub invariant-loop-i : goal.invariant-loop-i

@@ -1,0 +1,15 @@
+pub mod CertData
+pub mod CertText
+pub mod DueNodes
+pub mod Forests
+pub mod Growth
+pub mod HeadScan
+pub mod LinesLeft
+pub mod Nodes
+pub mod Numbers
+pub mod Pairs
+pub mod Printing
+pub mod Reading
+pub mod ScanState
+pub mod Scanning
+pub mod Stops
