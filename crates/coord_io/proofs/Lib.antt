@@ -4,4 +4,4 @@ pub mod Goings
 pub mod HandedOver
 pub mod Outcomes
 mod Places
-mod Readings
+pub mod Readings

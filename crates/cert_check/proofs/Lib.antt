@@ -1,0 +1,9 @@
+pub mod Answering
+pub mod ByteSteps
+pub mod Judging
+pub mod LineSteps
+pub mod NodeLines
+pub mod Pieces
+pub mod Seeing
+pub mod Stopping
+pub mod WholeCerts

@@ -1,0 +1,11 @@
+pub mod Accepted
+pub mod BadLines
+pub mod Checking
+pub mod ClaimFaults
+pub mod Claims
+pub mod Endings
+pub mod OpenLines
+pub mod Rightness
+pub mod Seen
+pub mod Streams
+pub mod TreeGives
