@@ -1,16 +1,16 @@
 -- How a command ends whose work is handed over.
-use Rattle.std.proofs.Common.{◌≡◌, inl, inr, ℕ, [], ◌∷◌, List, le_refl, refl, Result, Ok, Err, Some, None, IfOk, IfErr, IfSome, subst, sym}
+use Rattle.std.proofs.Common.{◌≡◌, ◌≤◌, arith, inl, inr, ℕ, [], ◌∷◌, List, le_refl, refl, Result, Ok, Err, OnErr, Some, None, IfOk, IfErr, IfSome, subst, sym}
 use Rattle.coord_io.proofs.Goings.{goes_as, goes_on, goes_stays}
 use Rattle.coord_io.specs.Faults.{Rose}
 use Rattle.coord_io.specs.Files.{Becomes, Files, StaysOrPart}
 use Rattle.coord_io.specs.Outside.{Changes, FolderState, IsReadAlone, SinkState}
 use Rattle.coord_run.specs.End.{AreCutAt, AreWritten, Ends, FileText, OutputData, Puts, done, no_memory, refused, unwritten}
-use Rattle.coord_run.specs.Handing.{Delivers, HandsOver, HasFaultLine, files_of, output_data}
+use Rattle.coord_run.specs.Handing.{Delivers, HandsOver, both_texts, files_of, output_data}
 use Rattle.coord_run.specs.Printing.{Prints}
 use Rattle.coord_run.specs.RefusalText.{write_fault_text}
 use Rattle.coord_run.specs.Stops.{StopsFor}
-use Rattle.coord_run.specs.Words.{FileNames}
-use Rattle.coord_run.specs.declared.end.NewFile.{NewFile}
+use Rattle.coord_run.specs.SolveWords.{FileNames}
+use Rattle.coord_run.specs.declared.end.NewFiles.{NewFiles}
 use Rattle.coord_run.specs.declared.end.Output.{Output}
 use Rattle.coord_run.specs.declared.refusal.Refusal.{Refusal}
 use Rattle.coord_run.specs.declared.refusal.Stop.{Stop}
@@ -24,44 +24,60 @@ written_none folder = record {
   none = λ is. record { stay = goes_stays folder.files; reads = le_refl folder.reads; writes = refl };
 }
 
--- one file is written
-written_one : (file : FileText) (before after : FolderState) → Changes before after (Becomes file.name file.text) → AreWritten (file ∷ []) before after
-written_one file before after put = record {
-  puts = goes_as (λ m n was becomes. (n, becomes, refl)) put;
-  none = λ is. let no : ⊥ = cc in absurd no;
-}
+module _ (cert sheet : FileText) (before between after : FolderState) where
+  -- the certificate is written, and then the sheet
+  pub written_both : Changes before between (Becomes cert.name cert.text) → Changes between after (Becomes sheet.name sheet.text) → AreWritten (cert ∷ sheet ∷ []) before after
+  written_both first second = record {
+    puts = goes_on (λ l m n put more. (m, put, (n, more, refl))) first second;
+    none = λ is. let no : ⊥ = cc in absurd no;
+  }
 
--- writing failed at the one file
-cut_one : (file : FileText) (before after : FolderState) → Rose before.writes after.writes → Changes before after (StaysOrPart file.name file.text) → AreCutAt (file ∷ []) file before after
-cut_one file before after rose part = record {
+  -- writing failed at the sheet
+  pub cut_sheet : Changes before between (Becomes cert.name cert.text) → before.writes ≤ between.writes → Rose between.writes after.writes
+      → Changes between after (StaysOrPart sheet.name sheet.text) → AreCutAt (cert ∷ sheet ∷ []) sheet before after
+  cut_sheet first counted rose part = record {
+    whole = cert ∷ [];
+    later = [];
+    order = refl;
+    rose = omega (arith, counted, rose);
+    left = goes_on (λ l m n put left. (m, (m, put, refl), left)) first part;
+  }
+
+-- a call failed if it did not succeed
+pub failed_so : {T E : Type 0} {P : Type 0} (r : Result T E) → ((x : T) → r ≡ Ok x → ⊥) → OnErr r P → P
+failed_so (Ok x) none holds = absurd (none x refl)
+failed_so (Err e) none holds = holds
+
+-- writing failed at the certificate
+pub cut_cert : (cert sheet : FileText) (before after : FolderState) → Rose before.writes after.writes → Changes before after (StaysOrPart cert.name cert.text)
+    → AreCutAt (cert ∷ sheet ∷ []) cert before after
+cut_cert cert sheet before after rose part = record {
   whole = [];
-  later = [];
+  later = sheet ∷ [];
   order = refl;
   rose = rose;
   left = goes_as (λ m n was left. (m, refl, left)) part;
 }
 
 module _ (output : Output) (before after : FolderState) (sink_before sink_after : SinkState) (status : ℕ) where
-  -- the file of an output is written, or there is none, or writing it failed
-  pub delivers_report : output.file ≡ None → after ≡ before → Prints output.report.items output.status sink_before sink_after status → Delivers output before after sink_before sink_after status
+  -- there are no files, or they are written
+  pub delivers_report : output.files ≡ None → after ≡ before → Prints output.report.items output.status sink_before sink_after status → Delivers output before after sink_before sink_after status
   delivers_report is same printed =
       inl (subst (λ f. AreWritten (files_of f) before after) (sym is) (subst (λ folder. AreWritten [] before folder) (sym same) (written_none before)), printed)
 
-  pub delivers_file : (file : NewFile) → output.file ≡ Some file → Changes before after (Becomes file.name.now file.text.items) → Prints output.report.items output.status sink_before sink_after status
+  pub delivers_files : (files : NewFiles) → output.files ≡ Some files → AreWritten (both_texts files) before after → Prints output.report.items output.status sink_before sink_after status
       → Delivers output before after sink_before sink_after status
-  delivers_file file is put printed =
-      inl (subst (λ f. AreWritten (files_of f) before after) (sym is) (written_one (record { name = file.name.now; text = file.text.items }) before after put), printed)
+  delivers_files files is put printed = inl (subst (λ f. AreWritten (files_of f) before after) (sym is) put, printed)
 
-  pub delivers_fault : (file : NewFile) → output.file ≡ Some file → HasFaultLine output → Rose before.writes after.writes → Changes before after (StaysOrPart file.name.now file.text.items)
-      → Prints file.fault_line.items 11 sink_before sink_after status → Delivers output before after sink_before sink_after status
-  delivers_fault file is line rose part printed =
-      let here : FileText = record { name = file.name.now; text = file.text.items } in
-      let line_is : file.fault_line.items ≡ write_fault_text file.name.now = subst (λ f. IfSome f (λ x. x.fault_line.items ≡ write_fault_text x.name.now)) is line in
-      inr (
-        here,
-        subst (λ f. AreCutAt (files_of f) here before after) (sym is) (cut_one here before after rose part),
-        subst (λ text. Prints text 11 sink_before sink_after status) line_is printed,
-      )
+  -- writing one of them failed
+  pub delivers_fault : (files : NewFiles) (file : FileText) (line : List ℕ) → output.files ≡ Some files → AreCutAt (both_texts files) file before after → line ≡ write_fault_text file.name
+      → Prints line 11 sink_before sink_after status → Delivers output before after sink_before sink_after status
+  delivers_fault files file line is cut line_is printed =
+      inr (inl (file, subst (λ f. AreCutAt (files_of f) file before after) (sym is) cut, subst (λ text. Prints text 11 sink_before sink_after status) line_is printed))
+
+  -- memory ran out
+  pub delivers_none : after ≡ before → status ≡ 30 → sink_after ≡ sink_before → Delivers output before after sink_before sink_after status
+  delivers_none same thirty printed = inr (inr (same, thirty, printed))
 
 -- files that are written after a reading alone are written over both
 written_after : (files : List FileText) (before between after : FolderState) → IsReadAlone before between → AreWritten files between after → AreWritten files before after
@@ -88,11 +104,12 @@ module _ (names : FileNames) (cause : FolderState → Refusal → Type 0) (is_ou
     caused = (moves _ whole.0.puts _ is, written_after _ before between after alone whole.0);
     printed = whole.1;
   }
-  delivered output alone is (inr part) = record {
+  delivered output alone is (inr (inl part)) = record {
     end = unwritten (output_data output) part.0;
     caused = (moves _ part.1.left _ is, cut_after _ part.0 before between after alone part.1);
     printed = part.2;
   }
+  delivered output alone is (inr (inr none)) = record { end = no_memory; caused = subst (λ f. IsReadAlone before f) (sym none.0) alone; printed = (none.1, none.2) }
 
   refuses : (refusal : Refusal) → IsReadAlone before between → cause between refusal → HandsOver names (Err (stop.Refused refusal)) between after sink_before sink_after status
       → Ends names (cause after) (is_output after) before after sink_before sink_after status

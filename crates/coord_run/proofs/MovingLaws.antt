@@ -8,14 +8,14 @@ use Rattle.coord_run.specs.Margins.{IsMarginsOutput}
 use Rattle.coord_run.specs.Pairs.{IsPairsOutput}
 use Rattle.coord_run.specs.Settings.{GivesSettings}
 use Rattle.coord_run.specs.Solve.{IsSolved}
-use Rattle.coord_run.specs.Words.{FileNames}
+use Rattle.coord_run.specs.SolveWords.{FileNames, SolveWords}
 use Rattle.coord_run.proofs.ReadingLaws.{told_first}
 
-pub solved_moves : (names : FileNames) (before between after : FolderState) (step : Files → Files → Type 0) → Changes between after step → (output : OutputData)
-    → IsSolved names before between output → IsSolved names before after output
-solved_moves names before between after step moved output is = record {
+pub solved_moves : (asked : SolveWords) (before between after : FolderState) (step : Files → Files → Type 0) → Changes between after step → (output : OutputData)
+    → IsSolved asked before between output → IsSolved asked before after output
+solved_moves asked before between after step moved output is = record {
   case = is.case;
-  inputs = told_first before between after (λ m. AreInputs m names.network names.currents is.case.study is.case.currents) is.inputs moved;
+  inputs = told_first before between after (λ m. AreInputs m asked.names.network asked.names.currents is.case.study is.case.currents) is.inputs moved;
   of_case = is.of_case;
 }
 

@@ -9,11 +9,11 @@ use Rattle.coord_run.specs.Words.{Command, margins, pairs, solve}
 
 -- the line for words that fit no command
 abbrev pub usage_text : List ℕ
-usage_text = codes "usage: coord solve NETWORK CURRENTS SHEET, pairs NETWORK, margins NETWORK CURRENTS SHEET\n"
+usage_text = codes "usage: coord solve NETWORK CURRENTS SHEET CERT [--gap N] [--budget N], pairs NETWORK, margins NETWORK CURRENTS SHEET\n"
 
 -- words that fit no command get the usage line and status 2, unless memory runs out, and no file is touched; a command does its work
 abbrev pub Does : Option Command → FolderState → FolderState → SinkState → SinkState → ℕ → Type 0
 Does None before after sink_before sink_after status = (after ≡ before) × PrintsUnlessMemory usage_text 2 sink_before sink_after status
-Does (Some (solve names)) before after sink_before sink_after status = Solves names before after sink_before sink_after status
+Does (Some (solve asked)) before after sink_before sink_after status = Solves asked before after sink_before sink_after status
 Does (Some (pairs network)) before after sink_before sink_after status = ListsPairs network before after sink_before sink_after status
 Does (Some (margins names)) before after sink_before sink_after status = ReportsMargins names before after sink_before sink_after status

@@ -7,11 +7,11 @@ use Rattle.coord_model.specs.declared.kinds.TableName.{TableName}
 use Rattle.coord_model.specs.declared.kinds.What.{What}
 use Rattle.coord_run.specs.Inputs.{most_bytes}
 use Rattle.coord_run.specs.RefusalWords.{due_word, kind_word, table_word, what_word, key_text}
-use Rattle.coord_run.specs.Words.{FileNames}
+use Rattle.coord_run.specs.SolveWords.{FileNames}
 use Rattle.coord_run.specs.declared.refusal.File.{File}
 use Rattle.coord_run.specs.declared.refusal.File.TheVariants as file
 use Rattle.coord_run.specs.declared.refusal.Refusal.{Refusal}
-use Rattle.coord_run.specs.declared.refusal.Refusal.TheVariants.{Missing, ReadFault, TooLong, NotText, NotToml, Network, TooMany, BadHeader, BadRecord, UnknownFault, UnknownRelay, BadAmps, DoubleEntry, NoPrimary, SheetLine, SheetPickup, PickupsNotBuilt}
+use Rattle.coord_run.specs.declared.refusal.Refusal.TheVariants.{Missing, ReadFault, TooLong, NotText, NotToml, Network, TooMany, BadHeader, BadRecord, UnknownFault, UnknownRelay, BadAmps, DoubleEntry, NoPrimary, GapTooSmall, SheetLine, SheetPickup}
 use Rattle.settings_sheet.specs.declared.refusal.SheetKind.{SheetKind}
 
 -- the name of a file of a command
@@ -41,6 +41,10 @@ place_text kind in_table index key =
 unfoldable pub record_text : List ℕ → ℕ → List ℕ
 record_text kind n = codes "currents: " ++ kind ++ codes " " ++ decimal n ++ codes "\n"
 
+-- a gap below the least gap
+unfoldable pub gap_text : ℕ → ℕ → List ℕ
+gap_text given least = codes "gap too small: " ++ decimal given ++ codes " least " ++ decimal least ++ codes "\n"
+
 -- a fault at a line of the sheet
 unfoldable pub sheet_line_text : ℕ → SheetKind → List ℕ
 sheet_line_text line kind = codes "sheet: line " ++ decimal line ++ codes " " ++ due_word kind ++ codes "\n"
@@ -61,9 +65,9 @@ refusal_text names (UnknownRelay n) = record_text (codes "unknown-relay") n
 refusal_text names (BadAmps n) = record_text (codes "bad-amps") n
 refusal_text names (DoubleEntry n) = record_text (codes "double-entry") n
 refusal_text names (NoPrimary name) = name_text (codes "currents: no-primary ") name
+refusal_text names (GapTooSmall given least) = gap_text given least
 refusal_text names (SheetLine line kind) = sheet_line_text line kind
 refusal_text names (SheetPickup name) = name_text (codes "sheet: pickup ") name
-refusal_text names PickupsNotBuilt = codes "not built: pickups\n"
 
 -- the line of a file that was not written
 abbrev pub write_fault_text : List ℕ → List ℕ

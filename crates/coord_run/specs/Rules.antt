@@ -1,5 +1,5 @@
 -- The rules that the words of a command are read by, as clap sees them (ours).
-use Rattle.std.specs.Prelude.{true, Some, List, [], ◌∷◌, map, codes}
+use Rattle.std.specs.Prelude.{true, Some, List, [], ◌∷◌, ◌++◌, map, codes}
 use Rattle.clap.specs.Simple.{App, new_rule, new_shape}
 use Rattle.clap.specs.Walk.{Rule, Text}
 use Rattle.clap.specs.declared.builder.action.ArgAction.TheVariants.{Set}
@@ -12,11 +12,15 @@ use Rattle.coord_run.specs.declared.words.WordsRefusal.TheVariants.{NoMemory, Us
 abbrev pub name_rule : Text → Rule
 name_rule id = record (new_rule id) { action = Some Set; required = true }
 
--- the rules for names of these ids: the first word is no program's name, and no flag is added
-abbrev pub rules_for : List Text → App
-rules_for ids = record {
+-- the rule for an option: it has one word
+abbrev pub option_rule : Text → Rule
+option_rule id = record (new_rule id) { long = Some id; action = Some Set }
+
+-- the rules for names of these ids and for these options: the first word is no program's name, and no flag is added
+abbrev pub rules_for : List Text → List Text → App
+rules_for ids options = record {
   top = record (new_shape (codes "coord")) {
-    rules = map name_rule ids;
+    rules = map name_rule ids ++ map option_rule options;
     no_binary_name = true;
     disable_help_flag = true;
     disable_version_flag = true;
@@ -24,13 +28,15 @@ rules_for ids = record {
   subs = [];
 }
 
--- the ids of the names of a command that reads the network alone
-abbrev pub network_ids : List Text
-network_ids = codes "network" ∷ []
+-- the ids of one name, of three names, and of the names of `solve`
+abbrev pub one_id : List Text
+one_id = codes "name" ∷ []
 
--- the ids of the names of a command that reads both inputs and has a sheet
-abbrev pub sheet_ids : List Text
-sheet_ids = codes "network" ∷ codes "currents" ∷ codes "sheet" ∷ []
+abbrev pub three_ids : List Text
+three_ids = codes "first" ∷ codes "second" ∷ codes "third" ∷ []
+
+abbrev pub four_ids : List Text
+four_ids = codes "network" ∷ codes "currents" ∷ codes "sheet" ∷ codes "cert" ∷ []
 
 -- what a refusal of clap means: memory ran out, or the words do not keep the rules
 abbrev pub refusal_for : ErrorKind → WordsRefusal

@@ -1,9 +1,11 @@
 -- The statuses of the program (ours): that of a refusal and that of an outcome. A call for whose words there is no command
 -- has status 2, a write that failed 11, and want of memory 30.
-use Rattle.std.specs.Prelude.{ℕ, Some, None}
-use Rattle.coord_run.specs.Outcome.{OutcomeData, closed, hairline, no_settings}
+use Rattle.std.specs.Prelude.{ℕ, Bool, is_some, if◌then◌else◌}
+use Rattle.branch_bound.specs.declared.outcome.Outcome.{Outcome}
+use Rattle.coord_model.specs.declared.choice.Ending.{Ending}
+use Rattle.coord_model.specs.declared.choice.Ending.TheVariants.{BudgetSpent, Closed, Hairline, NoSettings}
 use Rattle.coord_run.specs.declared.refusal.Refusal.{Refusal}
-use Rattle.coord_run.specs.declared.refusal.Refusal.TheVariants.{Missing, ReadFault, TooLong, NotText, NotToml, Network, TooMany, BadHeader, BadRecord, UnknownFault, UnknownRelay, BadAmps, DoubleEntry, NoPrimary, SheetLine, SheetPickup, PickupsNotBuilt}
+use Rattle.coord_run.specs.declared.refusal.Refusal.TheVariants.{Missing, ReadFault, TooLong, NotText, NotToml, Network, TooMany, BadHeader, BadRecord, UnknownFault, UnknownRelay, BadAmps, DoubleEntry, NoPrimary, GapTooSmall, SheetLine, SheetPickup}
 
 -- the status of a refusal
 abbrev pub refusal_status : Refusal → ℕ
@@ -21,13 +23,17 @@ refusal_status (BadAmps n) = 14
 refusal_status (DoubleEntry n) = 14
 refusal_status (NoPrimary name) = 14
 refusal_status (TooMany what limit) = 15
+refusal_status (GapTooSmall given least) = 16
 refusal_status (SheetLine line kind) = 20
-refusal_status PickupsNotBuilt = 21
 refusal_status (SheetPickup name) = 22
 
+-- the status of an ending, with issued settings or without
+abbrev pub ending_status : Ending → Bool → ℕ
+ending_status Closed issued = 0
+ending_status NoSettings issued = 3
+ending_status BudgetSpent issued = if issued then 4 else 5
+ending_status Hairline issued = if issued then 6 else 7
+
 -- the status of an outcome
-abbrev pub outcome_status : OutcomeData → ℕ
-outcome_status (closed issued bound) = 0
-outcome_status no_settings = 3
-outcome_status (hairline (Some issued) hair bound) = 6
-outcome_status (hairline None hair bound) = 7
+abbrev pub outcome_status : Outcome → ℕ
+outcome_status outcome = ending_status outcome.ending (is_some outcome.issued)

@@ -1,28 +1,21 @@
 -- The words that the program is called with (ours).
-use Rattle.std.specs.Prelude.{ℕ, Bool, ◌&&◌, ◌==◌, nat_lt, not, Option, Some, None, option_and_then, option_map, List, [], ◌∷◌, length, codes, slice_index, if◌then◌else◌}
+use Rattle.std.specs.Prelude.{ℕ, Option, Some, None, option_and_then, option_map, List, [], ◌∷◌, codes}
+use Rattle.std.specs.Prelude.{if◌then◌else◌}
 use Rattle.std.specs.Str.{bytes_eq}
+use Rattle.coord_run.specs.SolveWords.{FileNames, IsAsked, SolveWords, solve_words}
+use Rattle.coord_run.specs.SaidUses.{uses_of}
+use Rattle.coord_run.specs.Uses.{names_in}
 
--- the word is `--`: after it every word is a name
-abbrev pub opens_names : List ℕ → Bool
-opens_names word = bytes_eq word (codes "--")
+-- a command with what it is asked
+pub data Command : Type 0 where
+  solve : SolveWords → Command
+  pairs : List ℕ → Command
+  margins : FileNames → Command
 
--- the word is a name: a word of two or more bytes that begins with `-` isn't one
-abbrev pub is_name : List ℕ → Bool
-is_name word = not (nat_lt 1 (length word) && (slice_index word 0 == 45))
-
--- the names that the words after a command are, in order, if all of them are names but for the first `--`
-unfoldable pub names_of : List (List ℕ) → Option (List (List ℕ))
-names_of [] = Some []
-names_of (word ∷ words) =
-    if opens_names word then Some words
-    else if is_name word then option_map (λ names. word ∷ names) (names_of words)
-    else None
-
--- the network, the currents table and the sheet that a command names
-pub record FileNames : Type 0 where
-  pub network : List ℕ
-  pub currents : List ℕ
-  pub sheet : List ℕ
+-- what a command may ask: names and numbers that `solve` allows, and any names else
+abbrev pub MayAsk : Command → Type 0
+MayAsk (solve words) = IsAsked words
+MayAsk other = Unit {0}
 
 -- the names of a command that names the network alone: it asks for no other file
 abbrev pub only : List ℕ → FileNames
@@ -30,38 +23,31 @@ only network = record { network = network; currents = network; sheet = network }
 
 -- the name, if there is one alone
 unfoldable pub one_name : List (List ℕ) → Option (List ℕ)
-one_name (network ∷ []) = Some network
+one_name (name ∷ []) = Some name
 one_name names = None
 
 -- the names, if there are three
-unfoldable pub three_names : List (List ℕ) → Option FileNames
-three_names (network ∷ currents ∷ sheet ∷ []) = Some (record { network = network; currents = currents; sheet = sheet })
+unfoldable pub three_names : List (List ℕ) → Option (List ℕ × List ℕ × List ℕ)
+three_names (first ∷ second ∷ third ∷ []) = Some (first, second, third)
 three_names names = None
 
--- no two of the names are equal
-abbrev pub all_differ : FileNames → Bool
-all_differ names =
-    not (bytes_eq names.network names.currents) && not (bytes_eq names.network names.sheet) && not (bytes_eq names.currents names.sheet)
+-- `margins` takes three names
+abbrev pub margins_of : List ℕ × List ℕ × List ℕ → Command
+margins_of names = margins (record { network = names.0; currents = names.1; sheet = names.2 })
 
--- a command with the files that it names
-pub data Command : Type 0 where
-  solve : FileNames → Command
-  pairs : List ℕ → Command
-  margins : FileNames → Command
+-- what words without options are read as, by their names
+abbrev pub from_names : {X : Type 0} → (List (List ℕ) → Option X) → List (List ℕ) → Option X
+from_names read words = option_and_then (λ uses. read (names_in uses)) (uses_of [] words)
 
--- `solve` takes names of which no two are equal
-abbrev pub solve_of : FileNames → Option Command
-solve_of names = if all_differ names then Some (solve names) else None
-
--- the command of this word with the names after it, if it takes so many
+-- the command of this word with the words after it, if they fit it
 abbrev pub command_with : List ℕ → List (List ℕ) → Option Command
-command_with word names =
-    if bytes_eq word (codes "solve") then option_and_then solve_of (three_names names)
-    else if bytes_eq word (codes "pairs") then option_map pairs (one_name names)
-    else if bytes_eq word (codes "margins") then option_map margins (three_names names)
+command_with word words =
+    if bytes_eq word (codes "solve") then option_map solve (solve_words words)
+    else if bytes_eq word (codes "pairs") then option_map pairs (from_names one_name words)
+    else if bytes_eq word (codes "margins") then option_map margins_of (from_names three_names words)
     else None
 
 -- the command that the words are, if they are one
 abbrev pub command_of : List (List ℕ) → Option Command
 command_of [] = None
-command_of (word ∷ words) = option_and_then (command_with word) (names_of words)
+command_of (word ∷ words) = command_with word words

@@ -5,12 +5,11 @@
 //! settings sheet.
 #![tactic(auto)]
 
-mod decide;
 mod end;
 mod inputs;
 mod margins;
-mod outcome;
 mod pairs;
+mod pieces;
 mod printing;
 mod program;
 mod refusal;
@@ -18,10 +17,10 @@ mod refusal_line;
 mod refusal_words;
 mod report;
 mod row_line;
+mod rules;
 mod settings;
 mod solve;
 mod status;
-mod steps;
 #[cfg(test)]
 mod tests;
 mod words;

@@ -3,7 +3,7 @@ ghost use Rattle.std.specs.Prelude.{◌≡◌, ◌<◌, ◌++◌, length, IfOk, 
 ghost use Rattle.std.specs.Option.{option_map};
 ghost use Rattle.coord_model.specs.Choice.{choice_data};
 ghost use Rattle.coord_run.specs.Margins.{IsMarginsOutput, MarginsCause, ReportsMargins, kept_rows, margins_text, row_texts, rows_text};
-ghost use Rattle.coord_run.specs.Handing.{HasFaultLine, output_data};
+ghost use Rattle.coord_run.specs.Handing.{IsWritable, output_data};
 ghost use Rattle.coord_run.specs.Names.{names_data};
 ghost use Rattle.coord_io.specs.Outside.{IsReadAlone};
 ghost use Rattle.coord_run.specs.Settings.{FitFirstBox};
@@ -42,7 +42,7 @@ pub fn margins<F: Folder, K: Sink>(
 /// The report on the three files.
 fn work<'a, F: Folder>(alloc: Global, folder: &mut F, names: &Names<'a>) -> Result<Output<'a>, Stop>
     ensures report { IfOk result (λ output. IsMarginsOutput (names_data names.now) (F.state folder.old) (F.state folder.new) (output_data output)) }
-    ensures line { IfOk result HasFaultLine }
+    ensures writable { IfOk result IsWritable }
     ensures stopped { IfErr result (λ stop. StopsFor stop (MarginsCause (names_data names.now) (F.state folder.old) (F.state folder.new))) }
     ensures alone { IsReadAlone (F.state folder.old) (F.state folder.new) }
 {
@@ -50,7 +50,7 @@ fn work<'a, F: Folder>(alloc: Global, folder: &mut F, names: &Names<'a>) -> Resu
     let choice = read_settings(alloc, folder, names.sheet, &inst)?;
     let report = margins_bytes(alloc, &inst, &choice)?;
     Ok(Output {
-        file: None,
+        files: None,
         report,
         status: 0,
     })

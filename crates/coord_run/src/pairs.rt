@@ -4,7 +4,7 @@ ghost use Rattle.coord_model.specs.Limits.{FitsStudy};
 ghost use Rattle.coord_model.specs.StudyData.{study_data};
 ghost use Rattle.coord_io.specs.Outside.{IsReadAlone};
 ghost use Rattle.coord_run.specs.Causes.{NetworkCause};
-ghost use Rattle.coord_run.specs.Handing.{HasFaultLine, output_data};
+ghost use Rattle.coord_run.specs.Handing.{IsWritable, output_data};
 ghost use Rattle.coord_run.specs.Names.{names_data};
 ghost use Rattle.coord_run.specs.Pairs.{IsPairsOutput, ListsPairs, count_text, pair_text, pair_texts, pairs_text};
 ghost use Rattle.coord_run.specs.Stops.{StopsFor};
@@ -43,14 +43,14 @@ fn only<'a>(network: &'a str) -> Names<'a>
 /// The report on the network file.
 fn work<'a, F: Folder>(alloc: Global, folder: &mut F, network: &'a str) -> Result<Output<'a>, Stop>
     ensures report { IfOk result (λ output. IsPairsOutput (F.state folder.old) (F.state folder.new) network.now (output_data output)) }
-    ensures line { IfOk result HasFaultLine }
+    ensures writable { IfOk result IsWritable }
     ensures stopped { IfErr result (λ stop. StopsFor stop (NetworkCause (F.state folder.old) (F.state folder.new) network.now)) }
     ensures alone { IsReadAlone (F.state folder.old) (F.state folder.new) }
 {
     let study = read_study(alloc, folder, network)?;
     let report = pairs_bytes(alloc, &study)?;
     Ok(Output {
-        file: None,
+        files: None,
         report,
         status: 0,
     })

@@ -1,33 +1,35 @@
 //! The whole call of the program.
 ghost use Rattle.std.specs.Prelude.{◌≡◌, Some, map, string_bytes};
+ghost use Rattle.coord_run.specs.SolveWords.{SolveWords};
 ghost use Rattle.coord_run.specs.Names.{command_data, names_data};
 ghost use Rattle.coord_run.specs.Headline.{Headline};
 ghost use Rattle.coord_run.specs.Printing.{Prints};
 ghost use Rattle.coord_run.specs.Program.{Does, usage_text};
-ghost use Rattle.coord_run.specs.Words.{FileNames, command_of, solve};
+ghost use Rattle.coord_run.specs.Words.{MayAsk, command_of, solve};
 
 use crate::margins::margins;
 use crate::pairs::pairs;
 use crate::printing::print;
-use crate::solve::solve;
+use crate::solve::solve_with;
 use crate::status::{NO_MEMORY, USAGE};
 use crate::words::{Command, Names, WordsRefusal, read_words};
 use coord_io::{Folder, Sink};
+use lp_advice::NullAdviser;
 use std::alloc::Global;
 
 /// The line for words that fit no command.
 const USAGE_LINE: &[u8] =
-    b"usage: coord solve NETWORK CURRENTS SHEET, pairs NETWORK, margins NETWORK CURRENTS SHEET\n";
+    b"usage: coord solve NETWORK CURRENTS SHEET CERT [--gap N] [--budget N], pairs NETWORK, margins NETWORK CURRENTS SHEET\n";
 
 /// Does what the words after the program's name ask for, and answers the status.
 ///
-/// `solve NETWORK CURRENTS SHEET` reads the network and the table of its fault currents, and writes the settings
-/// sheet. Its ending or its refusal is printed on the sink. `pairs NETWORK` reads the network and prints its pairs.
-/// `margins NETWORK CURRENTS SHEET` reads the three files and prints each row with its margins.
+/// `solve NETWORK CURRENTS SHEET CERT` reads the network and the table of its fault currents, and writes the certificate
+/// and then the settings sheet. Its ending or its refusal is printed on the sink. `pairs NETWORK` reads the network and
+/// prints its pairs. `margins NETWORK CURRENTS SHEET` reads the three files and prints each row with its margins.
 pub fn run<F: Folder, K: Sink>(alloc: Global, words: &[String], folder: &mut F, out: &mut K) -> u8
     ensures does { Does (command_of (map string_bytes words.now)) (F.state folder.old) (F.state folder.new) (K.state out.old) (K.state out.new) result }
-    ensures headline { (names : FileNames) → command_of (map string_bytes words.now) ≡ Some (solve names) →
-        Headline names (F.state folder.old) (F.state folder.new) (K.state out.old) (K.state out.new) result }
+    ensures headline { (asked : SolveWords) → command_of (map string_bytes words.now) ≡ Some (solve asked) →
+        Headline asked (F.state folder.old) (F.state folder.new) (K.state out.old) (K.state out.new) result }
 {
     obey(alloc, words, folder, out)
 }
@@ -58,6 +60,7 @@ fn carry_out<F: Folder, K: Sink>(
     folder: &mut F,
     out: &mut K,
 ) -> u8
+    requires { MayAsk (command_data command.now) }
     ensures { Does (Some (command_data command.now)) (F.state folder.old) (F.state folder.new)
         (K.state out.old) (K.state out.new) result }
 {
@@ -66,7 +69,21 @@ fn carry_out<F: Folder, K: Sink>(
             network,
             currents,
             sheet,
-        } => { solve(alloc, folder, out, &names(network, currents, sheet)) }
+            cert,
+            gap,
+            budget,
+        } => solve_with(
+            alloc,
+            folder,
+            out,
+            network,
+            currents,
+            sheet,
+            cert,
+            *gap,
+            *budget,
+            &mut NullAdviser,
+        ),
         Command::Pairs { network } => pairs(alloc, folder, out, network),
         Command::Margins {
             network,

@@ -59,6 +59,11 @@ pub enum Refusal {
     },
     /// No relay on its line has a current at the fault of this name.
     NoPrimary(Name),
+    /// The gap is below the study's least gap, both in whole weighted microseconds.
+    GapTooSmall {
+        given: u64,
+        least: u64,
+    },
     /// The lines before this one begin a sheet of the study, and with it they begin none.
     SheetLine {
         line: u32,
@@ -66,8 +71,6 @@ pub enum Refusal {
     },
     /// The first box doesn't have the pickup of the relay of this name.
     SheetPickup(Name),
-    /// Several pickup steps of a relay are not built yet.
-    PickupsNotBuilt,
 }
 
 /// Why a step answers nothing: it is refused, or memory ran out.

@@ -2,7 +2,7 @@
 ghost use Rattle.std.specs.Prelude.{◌≡◌, ◌++◌, IfOk, OnOk};
 ghost use Rattle.std.specs.Fmt.{decimal};
 ghost use Rattle.coord_run.specs.Names.{names_data};
-ghost use Rattle.coord_run.specs.RefusalText.{name_of, name_text, place_text, record_text, refusal_text, sheet_line_text, too_long_text, too_many_text};
+ghost use Rattle.coord_run.specs.RefusalText.{gap_text, name_of, name_text, place_text, record_text, refusal_text, sheet_line_text, too_long_text, too_many_text};
 ghost use Rattle.coord_run.specs.RefusalWords.{key_text};
 
 use crate::inputs::MOST_BYTES;
@@ -43,9 +43,9 @@ pub fn refusal_line(
         Refusal::BadAmps { n } => record_line(alloc, b"bad-amps", *n),
         Refusal::DoubleEntry { n } => record_line(alloc, b"double-entry", *n),
         Refusal::NoPrimary(name) => name_line(alloc, b"currents: no-primary ", name.bytes()),
+        Refusal::GapTooSmall { given, least } => gap_line(alloc, *given, *least),
         Refusal::SheetLine { line, kind } => sheet_line(alloc, *line, *kind),
         Refusal::SheetPickup(name) => name_line(alloc, b"sheet: pickup ", name.bytes()),
-        Refusal::PickupsNotBuilt => Ok(Vec::from_slice(alloc, b"not built: pickups\n")?),
     }
 }
 
@@ -151,6 +151,19 @@ fn record_line(alloc: Global, kind: &[u8], n: u32) -> Result<Vec<u8>, NoMemory>
     line.extend_from_slice(kind)?;
     line.extend_from_slice(b" ")?;
     push_number(&mut line, u64::from(n))?;
+    line.extend_from_slice(b"\n")?;
+    Ok(line)
+}
+
+/// The line of a gap that is too small.
+#[tactic(auto, unfolding(crate::specs::RefusalText::gap_text))]
+fn gap_line(alloc: Global, given: u64, least: u64) -> Result<Vec<u8>, NoMemory>
+    ensures { IfOk result (λ line. line.items ≡ gap_text given least) }
+{
+    let mut line = Vec::from_slice(alloc, b"gap too small: ")?;
+    push_number(&mut line, given)?;
+    line.extend_from_slice(b" least ")?;
+    push_number(&mut line, least)?;
     line.extend_from_slice(b"\n")?;
     Ok(line)
 }

@@ -1,10 +1,10 @@
 //! The statuses that the program ends with.
 ghost use Rattle.std.specs.Prelude.{◌≡◌};
-ghost use Rattle.coord_run.specs.Outcome.{outcome_data};
-ghost use Rattle.coord_run.specs.Status.{outcome_status, refusal_status};
+ghost use Rattle.coord_run.specs.Status.{ending_status, outcome_status, refusal_status};
 
-use crate::outcome::Outcome;
 use crate::refusal::Refusal;
+use branch_bound::Outcome;
+use coord_model::Ending;
 
 /// The words fit no command.
 pub const USAGE: u8 = 2;
@@ -32,23 +32,29 @@ pub fn refusal_status(refusal: &Refusal) -> u8
         | Refusal::DoubleEntry { .. }
         | Refusal::NoPrimary(_) => 14,
         Refusal::TooMany { .. } => 15,
+        Refusal::GapTooSmall { .. } => 16,
         Refusal::SheetLine { .. } => 20,
-        Refusal::PickupsNotBuilt => 21,
         Refusal::SheetPickup(_) => 22,
     }
 }
 
 /// The status of an outcome.
 pub fn outcome_status(outcome: &Outcome) -> u8
-    ensures { result ≡ outcome_status (outcome_data outcome.now) }
+    ensures { result ≡ outcome_status outcome.now }
 {
-    match outcome {
-        Outcome::Closed { .. } => 0,
-        Outcome::NoSettings => 3,
-        Outcome::Hairline {
-            issued: Some(_),
-            ..
-        } => 6,
-        Outcome::Hairline { issued: None, .. } => 7,
+    ending_status(outcome.ending, outcome.issued.is_some())
+}
+
+/// The status of an ending, with issued settings or without.
+fn ending_status(ending: Ending, issued: bool) -> u8
+    ensures { result ≡ ending_status ending issued }
+{
+    match (ending, issued) {
+        (Ending::Closed, _) => 0,
+        (Ending::NoSettings, _) => 3,
+        (Ending::BudgetSpent, true) => 4,
+        (Ending::BudgetSpent, false) => 5,
+        (Ending::Hairline, true) => 6,
+        (Ending::Hairline, false) => 7,
     }
 }

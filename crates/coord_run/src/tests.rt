@@ -6,6 +6,8 @@ mod limits;
 mod listing;
 mod margins;
 mod refusals;
+mod searches;
+mod words;
 
 use crate::program::run;
 use coord_io::{CallKind, Fail, MemFile, MemFolder, MemSink, names_differ};
@@ -86,12 +88,25 @@ relay R2 plug 1.00 dial 0.050
 end
 ";
 
+/// The plain bound of the one box is the cost.
+const CERT: &str = "coord-certificate 1
+ending closed
+gap 1000
+budget 20000
+boxes 1
+bound 262500
+cost 262500
+settings 0:0 0:0
+B 1
+end
+";
+
 const NO_SETTINGS: &str = "coord-sheet 1\nending no-settings\ncost none\nbound none\nend\n";
 
 /// What the sheet's file holds before the call.
 const OLD_SHEET: &str = "an old sheet\n";
 
-const SOLVE: [&str; 4] = ["solve", "n", "t", "s"];
+const SOLVE: [&str; 5] = ["solve", "n", "t", "s", "c"];
 
 const MARGINS: [&str; 4] = ["margins", "n", "t", "s"];
 

@@ -1,21 +1,36 @@
 //! The words that the program is called with.
-ghost use Rattle.std.specs.Prelude.{◌≡◌, [], ◌∷◌, IfOk, Some, true, false, codes, is_some, map, option_and_then, option_map, string_bytes};
-ghost use Rattle.coord_run.specs.Names.{Reads, command_data, names_data};
-ghost use Rattle.coord_run.specs.Words.{all_differ, command_of, margins, names_of, one_name, pairs, solve_of, three_names};
-ghost use Rattle.coord_run.specs.Rules.{name_rule, network_ids, rules_for, sheet_ids};
-ghost use Rattle.clap.specs.Words.{app_of, first_value, found_of, rule_of};
+ghost use Rattle.std.specs.Prelude.{◌≡◌, ◌≤◌, IfOk, IfSome, Some, map, option_and_then, option_map, string_bytes};
+ghost use Rattle.coord_run.specs.Names.{Reads, command_data, names_data, texts_data, three_data, word_data};
+ghost use Rattle.coord_run.specs.OptionNumbers.{IsBudget, IsGap, budget_of, gap_of, number_up_to};
+ghost use Rattle.coord_run.specs.SaidUses.{uses_of};
+ghost use Rattle.coord_run.specs.SolveWords.{all_differ, solve_options, solve_texts, solve_words};
+ghost use Rattle.coord_run.specs.Words.{MayAsk, command_of, from_names, margins_of, one_name, pairs};
+ghost use Rattle.coord_run.specs.Words.{solve, three_names};
 
+use crate::rules::{name_in, one_name_rules, solve_rules, three_names_rules};
 use clap::error::ErrorKind;
-use clap::{Arg, ArgAction, ArgMatches};
+use coord_text::read_number;
 use std::alloc::{AllocError, Global};
 
-/// A command with the files that it names.
+/// The greatest gap that may be asked for.
+const MAX_GAP: u64 = 1_000_000_000_000;
+
+/// The greatest budget.
+const MAX_BUDGET: u64 = 200_000;
+
+/// The budget if none is given.
+const DEFAULT_BUDGET: u32 = 20_000;
+
+/// A command with what it is asked.
 #[derive(Drop)]
 pub enum Command {
     Solve {
         network: String,
         currents: String,
         sheet: String,
+        cert: String,
+        gap: Option<u64>,
+        budget: u32,
     },
     Pairs {
         network: String,
@@ -69,12 +84,23 @@ pub struct Names<'a> {
     pub sheet: &'a str,
 }
 
+/// The names of `solve`, and the words of its options.
+#[derive(Clone, Copy)]
+struct SolveTexts<'a> {
+    names: Names<'a>,
+    cert: &'a str,
+    gap: Option<&'a str>,
+    budget: Option<&'a str>,
+}
+
 /// The command that the words after the program's name are.
 ///
-/// The first word is the command, and the words after it are its names. A name that begins with `-` comes after the
-/// word `--`, unless it is `-` alone. No other word is taken.
+/// The first word is the command, and the words after it are its names. `solve` also takes `--gap N` and `--budget N`,
+/// each at most once, in two words or as `--gap=N`. A name that begins with `-` comes after the word `--`, unless it is
+/// `-` alone. No other word is taken.
 pub fn read_words(alloc: Global, words: &[String]) -> Result<Command, WordsRefusal>
-    ensures { Reads command_data (command_of (map string_bytes words.now)) result }
+    ensures exact { Reads command_data (command_of (map string_bytes words.now)) result }
+    ensures allowed { IfOk result (λ command. MayAsk (command_data command)) }
 {
     let Some((command, rest)) = words.split_first() else {
         return Err(WordsRefusal::Usage);
@@ -87,33 +113,76 @@ pub fn read_words(alloc: Global, words: &[String]) -> Result<Command, WordsRefus
     }
 }
 
-/// `solve NETWORK CURRENTS SHEET`, three names of which no two are equal.
+/// `solve NETWORK CURRENTS SHEET CERT`, four names of which no two are equal, with `--gap N` and `--budget N`.
 fn read_solve(alloc: Global, words: &[String]) -> Result<Command, WordsRefusal>
-    ensures { Reads command_data (option_and_then solve_of (option_and_then three_names (names_of (map string_bytes words.now)))) result }
+    ensures exact { Reads command_data (option_map solve (solve_words (map string_bytes words.now))) result }
+    ensures allowed { IfOk result (λ command. MayAsk (command_data command)) }
 {
-    let names = sheet_names(alloc, words)?;
-    if !all_differ(&names) {
+    let texts = solve_texts(alloc, words)?;
+    if !all_differ(&texts.names, texts.cert) {
         return Err(WordsRefusal::Usage);
     }
+    let gap = gap_of(texts.gap).ok_or(WordsRefusal::Usage)?;
+    let budget = budget_of(texts.budget).ok_or(WordsRefusal::Usage)?;
     Ok(Command::Solve {
-        network: String::from_str(alloc, names.network)?,
-        currents: String::from_str(alloc, names.currents)?,
-        sheet: String::from_str(alloc, names.sheet)?,
+        network: String::from_str(alloc, texts.names.network)?,
+        currents: String::from_str(alloc, texts.names.currents)?,
+        sheet: String::from_str(alloc, texts.names.sheet)?,
+        cert: String::from_str(alloc, texts.cert)?,
+        gap,
+        budget,
     })
 }
 
 /// Whether no two of the names are equal.
-fn all_differ(names: &Names<'_>) -> bool
-    ensures { result ≡ all_differ (names_data names.now) }
+fn all_differ(names: &Names<'_>, cert: &str) -> bool
+    ensures { result ≡ all_differ (names_data names.now) cert.now }
 {
-    names.network != names.currents && names.network != names.sheet && names.currents != names.sheet
+    names.network != names.currents
+        && names.network != names.sheet
+        && names.currents != names.sheet
+        && names.network != cert
+        && names.currents != cert
+        && names.sheet != cert
+}
+
+/// The gap that the option's word spells, if there is one. `None`: the word is no gap.
+fn gap_of(word: Option<&str>) -> Option<Option<u64>>
+    ensures exact { result ≡ gap_of (word_data word.entry) }
+    ensures within { IfSome result (λ gap. IfSome gap IsGap) }
+{
+    match word {
+        Some(word) => Some(Some(number_up_to(word, MAX_GAP)?)),
+        None => Some(None),
+    }
+}
+
+/// The budget that the option's word spells, or else the default. `None`: the word is no budget.
+fn budget_of(word: Option<&str>) -> Option<u32>
+    ensures exact { result ≡ budget_of (word_data word.entry) }
+    ensures within { IfSome result IsBudget }
+{
+    match word {
+        Some(word) => Some(number_up_to(word, MAX_BUDGET)? as u32),
+        None => Some(DEFAULT_BUDGET),
+    }
+}
+
+/// The number from 1 to `limit` that the word spells. `None`: it spells none.
+fn number_up_to(word: &str, limit: u64) -> Option<u64>
+    ensures exact { result ≡ number_up_to limit word.now }
+    ensures within { IfSome result (λ n. (1 ≤ n) × (n ≤ limit)) }
+{
+    let n = read_number(word.as_bytes(), limit)?;
+    if n == 0 { None } else { Some(n) }
 }
 
 /// `pairs NETWORK`.
 fn read_pairs(alloc: Global, words: &[String]) -> Result<Command, WordsRefusal>
-    ensures { Reads command_data (option_map pairs (option_and_then one_name (names_of (map string_bytes words.now)))) result }
+    ensures exact { Reads command_data (option_map pairs (from_names one_name (map string_bytes words.now))) result }
+    ensures allowed { IfOk result (λ command. MayAsk (command_data command)) }
 {
-    let network = network_name(alloc, words)?;
+    let network = one_name(alloc, words)?;
     Ok(Command::Pairs {
         network: String::from_str(alloc, network)?,
     })
@@ -121,75 +190,51 @@ fn read_pairs(alloc: Global, words: &[String]) -> Result<Command, WordsRefusal>
 
 /// `margins NETWORK CURRENTS SHEET`.
 fn read_margins(alloc: Global, words: &[String]) -> Result<Command, WordsRefusal>
-    ensures { Reads command_data (option_map margins (option_and_then three_names (names_of (map string_bytes words.now)))) result }
+    ensures exact { Reads command_data (option_map margins_of (from_names three_names (map string_bytes words.now))) result }
+    ensures allowed { IfOk result (λ command. MayAsk (command_data command)) }
 {
-    let names = sheet_names(alloc, words)?;
+    let (network, currents, sheet) = three_names(alloc, words)?;
     Ok(Command::Margins {
-        network: String::from_str(alloc, names.network)?,
-        currents: String::from_str(alloc, names.currents)?,
-        sheet: String::from_str(alloc, names.sheet)?,
+        network: String::from_str(alloc, network)?,
+        currents: String::from_str(alloc, currents)?,
+        sheet: String::from_str(alloc, sheet)?,
     })
 }
 
-/// The name NETWORK.
-fn network_name(alloc: Global, words: &[String]) -> Result<&str, WordsRefusal>
-    ensures { Reads (λ name. name.now) (option_and_then one_name (names_of (map string_bytes words.now))) result }
+/// The names of `solve`, and the words of its options.
+fn solve_texts(alloc: Global, words: &[String]) -> Result<SolveTexts<'_>, WordsRefusal>
+    ensures { Reads texts_data (option_and_then solve_texts (uses_of solve_options (map string_bytes words.now)))
+        result }
 {
-    let matches = network_rules(alloc)?.try_get_matches_from(words)?;
-    Ok(name_in(&matches, "network"))
-}
-
-/// The names NETWORK, CURRENTS and SHEET.
-fn sheet_names(alloc: Global, words: &[String]) -> Result<Names<'_>, WordsRefusal>
-    ensures { Reads names_data (option_and_then three_names (names_of (map string_bytes words.now))) result }
-{
-    let matches = sheet_rules(alloc)?.try_get_matches_from(words)?;
-    Ok(Names {
-        network: name_in(&matches, "network"),
-        currents: name_in(&matches, "currents"),
-        sheet: name_in(&matches, "sheet"),
+    let matches = solve_rules(alloc)?.try_get_matches_from(words)?;
+    Ok(SolveTexts {
+        names: Names {
+            network: name_in(&matches, "network"),
+            currents: name_in(&matches, "currents"),
+            sheet: name_in(&matches, "sheet"),
+        },
+        cert: name_in(&matches, "cert"),
+        gap: matches.get_str("gap"),
+        budget: matches.get_str("budget"),
     })
 }
 
-/// The rules for NETWORK.
-fn network_rules<'a>(alloc: Global) -> Result<clap::Command<'a>, AllocError>
-    ensures { IfOk result (λ rules. app_of rules ≡ rules_for network_ids) }
+/// The one name that the words are.
+fn one_name(alloc: Global, words: &[String]) -> Result<&str, WordsRefusal>
+    ensures { Reads (λ name. name.now) (from_names one_name (map string_bytes words.now)) result }
 {
-    no_rules(alloc).arg(name(alloc, "network"))
+    let matches = one_name_rules(alloc)?.try_get_matches_from(words)?;
+    Ok(name_in(&matches, "name"))
 }
 
-/// The rules for NETWORK, CURRENTS and SHEET.
-fn sheet_rules<'a>(alloc: Global) -> Result<clap::Command<'a>, AllocError>
-    ensures { IfOk result (λ rules. app_of rules ≡ rules_for sheet_ids) }
+/// The three names that the words are.
+fn three_names(alloc: Global, words: &[String]) -> Result<(&str, &str, &str), WordsRefusal>
+    ensures { Reads three_data (from_names three_names (map string_bytes words.now)) result }
 {
-    no_rules(alloc)
-        .arg(name(alloc, "network"))?
-        .arg(name(alloc, "currents"))?
-        .arg(name(alloc, "sheet"))
-}
-
-/// Rules that take no word: no program's name, no `--help` and no `--version`.
-fn no_rules<'a>(alloc: Global) -> clap::Command<'a>
-    ensures { app_of result ≡ rules_for [] }
-{
-    clap::Command::new(alloc, "coord")
-        .no_binary_name(true)
-        .disable_help_flag(true)
-        .disable_version_flag(true)
-}
-
-/// The rule for a name: it is required, and is one word.
-fn name<'a>(alloc: Global, id: &'a str) -> Arg<'a>
-    ensures rule { rule_of result ≡ name_rule id.entry.now }
-    ensures local { result.global ≡ false }
-{
-    Arg::new(alloc, id).required(true).action(ArgAction::Set)
-}
-
-/// The word of a name.
-fn name_in<'a>(matches: &ArgMatches<'a>, id: &str) -> &'a str
-    requires { is_some (first_value (found_of matches.now) id.now) ≡ true }
-    ensures { first_value (found_of matches.now) id.now ≡ Some result.now }
-{
-    matches.get_str(id).unwrap()
+    let matches = three_names_rules(alloc)?.try_get_matches_from(words)?;
+    Ok((
+        name_in(&matches, "first"),
+        name_in(&matches, "second"),
+        name_in(&matches, "third"),
+    ))
 }

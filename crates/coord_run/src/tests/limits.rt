@@ -101,7 +101,7 @@ fn files_and_quantities_past_their_limit_are_refused(rt: HostRuntime) -> Result<
     let files = [("n", NETWORK), ("t", CURRENTS), ("l", text)];
     answers(
         &rt,
-        &["solve", "l", "t", "s"],
+        &["solve", "l", "t", "s", "c"],
         &files,
         None,
         12,
@@ -110,7 +110,7 @@ fn files_and_quantities_past_their_limit_are_refused(rt: HostRuntime) -> Result<
     )?;
     answers(
         &rt,
-        &["solve", "n", "l", "s"],
+        &["solve", "n", "l", "s", "c"],
         &files,
         None,
         12,

@@ -11,16 +11,19 @@ struct Refused {
     after: &'static [(&'static str, &'static str)],
 }
 
-const REFUSED: [Refused; 13] = [
+const USAGE: &str =
+    "usage: coord solve NETWORK CURRENTS SHEET CERT [--gap N] [--budget N], pairs NETWORK, margins NETWORK CURRENTS SHEET\n";
+
+const REFUSED: [Refused; 16] = [
     Refused {
-        words: &["solve", "m", "t", "s"],
+        words: &["solve", "m", "t", "s", "c"],
         planned: None,
         status: 9,
         text: "missing: m\n",
         after: &[("s", OLD_SHEET)],
     },
     Refused {
-        words: &["solve", "n", "m", "s"],
+        words: &["solve", "n", "m", "s", "c"],
         planned: None,
         status: 9,
         text: "missing: m\n",
@@ -74,36 +77,68 @@ const REFUSED: [Refused; 13] = [
         planned: Some((CallKind::Start, "s", 1)),
         status: 11,
         text: "write fault: s\n",
-        after: &[("s", OLD_SHEET)],
+        after: &[("s", OLD_SHEET), ("c", CERT)],
     },
     Refused {
         words: &SOLVE,
         planned: Some((CallKind::Append, "s", 1)),
         status: 11,
         text: "write fault: s\n",
-        after: &[("s", "")],
+        after: &[("s", ""), ("c", CERT)],
     },
-    // a name after `--` is that of a file
+    // the sheet is not started before the certificate is whole
     Refused {
-        words: &["solve", "n", "t", "--", "-s"],
+        words: &SOLVE,
+        planned: Some((CallKind::Start, "c", 1)),
+        status: 11,
+        text: "write fault: c\n",
+        after: &[("s", OLD_SHEET)],
+    },
+    Refused {
+        words: &SOLVE,
+        planned: Some((CallKind::Append, "c", 1)),
+        status: 11,
+        text: "write fault: c\n",
+        after: &[("s", OLD_SHEET), ("c", "")],
+    },
+    // a name after `--` is that of a file, and options may stand anywhere
+    Refused {
+        words: &[
+            "solve",
+            "--gap=1000",
+            "n",
+            "t",
+            "--budget",
+            "20000",
+            "--",
+            "-s",
+            "c",
+        ],
         planned: None,
         status: 0,
         text: REPORT,
-        after: &[("-s", SHEET), ("s", OLD_SHEET)],
+        after: &[("-s", SHEET), ("s", OLD_SHEET), ("c", CERT)],
     },
     Refused {
-        words: &["solve", "n", "t", "-"],
+        words: &["solve", "n", "t", "-", "c"],
         planned: None,
         status: 0,
         text: REPORT,
-        after: &[("-", SHEET)],
+        after: &[("-", SHEET), ("c", CERT)],
     },
     Refused {
-        words: &["solve", "n", "t", "t"],
+        words: &["solve", "n", "t", "s", "t"],
         planned: None,
         status: 2,
-        text: "usage: coord solve NETWORK CURRENTS SHEET, pairs NETWORK, margins NETWORK CURRENTS SHEET\n",
+        text: USAGE,
         after: &[("t", CURRENTS)],
+    },
+    Refused {
+        words: &["solve", "n", "t", "s", "c", "--gap", "0"],
+        planned: None,
+        status: 2,
+        text: USAGE,
+        after: &[("s", OLD_SHEET)],
     },
 ];
 
@@ -132,7 +167,7 @@ interval = [
 ]";
 
 /// The network and the table with a part of each replaced, and how `solve` refuses them.
-const FAULTY: [((&str, &str), (&str, &str), u8, &str); 12] = [
+const FAULTY: [((&str, &str), (&str, &str), u8, &str); 11] = [
     (
         ("\"R2\"", "\"R1\""),
         ("", ""),
@@ -157,12 +192,6 @@ const FAULTY: [((&str, &str), (&str, &str), u8, &str); 12] = [
         ("", ""),
         13,
         "network: double-name interval 2 primary\n",
-    ),
-    (
-        ("plug_count = 1", "plug_count = 2"),
-        ("", ""),
-        21,
-        "not built: pickups\n",
     ),
     (("", ""), ("amps", "amp"), 14, "currents: bad-header\n"),
     (("", ""), ("R2,1000", "R2"), 14, "currents: bad-record 1\n"),
@@ -236,7 +265,7 @@ fn constants_that_take_too_long_are_refused(rt: HostRuntime) -> Result<(), test:
 }
 
 #[test]
-fn a_sink_that_fails_leaves_the_sheet_whole(rt: HostRuntime) -> Result<(), test::Fail> {
+fn a_sink_that_fails_leaves_both_files_whole(rt: HostRuntime) -> Result<(), test::Fail> {
     let alloc = rt.alloc();
     let mut words = Vec::new(alloc);
     for word in &SOLVE {
@@ -247,6 +276,7 @@ fn a_sink_that_fails_leaves_the_sheet_whole(rt: HostRuntime) -> Result<(), test:
     assert_eq!(rt; run(alloc, words.as_slice(), &mut folder, &mut out), 11);
     assert!(rt; out.bytes().is_empty());
     assert_eq!(rt; folder.bytes("s"), Some(SHEET.as_bytes()));
+    assert_eq!(rt; folder.bytes("c"), Some(CERT.as_bytes()));
     Ok(())
 }
 
@@ -254,7 +284,13 @@ fn a_sink_that_fails_leaves_the_sheet_whole(rt: HostRuntime) -> Result<(), test:
 fn files_of_the_disk_are_read_and_written(rt: HostRuntime) -> Result<(), test::Fail> {
     let alloc = rt.alloc();
     let mut words = Vec::new(alloc);
-    for word in &["solve", "coord_run_n", "coord_run_t", "coord_run_s"] {
+    for word in &[
+        "solve",
+        "coord_run_n",
+        "coord_run_t",
+        "coord_run_s",
+        "coord_run_c",
+    ] {
         words.push(String::from_str(alloc, word)?)?;
     }
     for (name, text) in &[("coord_run_n", NETWORK), ("coord_run_t", CURRENTS)] {
@@ -264,11 +300,13 @@ fn files_of_the_disk_are_read_and_written(rt: HostRuntime) -> Result<(), test::F
     let mut out = MemSink::new(alloc, Vec::new(alloc));
     let status = run(alloc, words.as_slice(), &mut folder, &mut out);
     let sheet = read_whole(alloc, &mut folder, "coord_run_s", 1_000)?;
-    for name in &["coord_run_n", "coord_run_t", "coord_run_s"] {
+    let cert = read_whole(alloc, &mut folder, "coord_run_c", 1_000)?;
+    for name in &["coord_run_n", "coord_run_t", "coord_run_s", "coord_run_c"] {
         fs::remove_file(&rt, *name)?;
     }
     assert_eq!(rt; out.bytes(), REPORT.as_bytes());
     assert_eq!(rt; status, 0);
     assert_eq!(rt; sheet.as_slice(), SHEET.as_bytes());
+    assert_eq!(rt; cert.as_slice(), CERT.as_bytes());
     Ok(())
 }

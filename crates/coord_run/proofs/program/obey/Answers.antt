@@ -11,7 +11,7 @@ untouched folder = record { stay = record { came = λ n is. (n, is, refl) }; rea
 -- every command may end for want of memory before it begins
 unbegun : (command : Option Command) (folder : FolderState) (sink : SinkState) → Does command folder folder sink sink 30
 unbegun None folder sink = (refl, inr (refl, refl))
-unbegun (Some (solve names)) folder sink = record { end = no_memory; caused = untouched folder; printed = (refl, refl) }
+unbegun (Some (solve asked)) folder sink = record { end = no_memory; caused = untouched folder; printed = (refl, refl) }
 unbegun (Some (pairs network)) folder sink = record { end = no_memory; caused = untouched folder; printed = (refl, refl) }
 unbegun (Some (margins names)) folder sink = record { end = no_memory; caused = untouched folder; printed = (refl, refl) }
 
