@@ -2,9 +2,9 @@
 ghost use Rattle.std.specs.Prelude.{◌≤◌};
 
 use crate::{Outcome, SearchFault, Solver, search};
+use advice::{Advice, Adviser, NullAdviser};
 use coord_model::{Ending, NoMemory, Weight, Weights};
 use hand_studies::{parallel_lines, tied_lines, two_pickups};
-use lp_advice::{Advice, Adviser, NullAdviser};
 use margin_rows::{BuildFault, Instance, Ranges};
 use std::alloc::Global;
 

@@ -5,7 +5,7 @@ ghost use Rattle.branch_bound.specs.Outcome.{Ends};
 use crate::fault::SearchFault;
 use crate::outcome::Outcome;
 use crate::solver::Solver;
-use lp_advice::Adviser;
+use advice::Adviser;
 use margin_rows::Instance;
 use std::alloc::Global;
 

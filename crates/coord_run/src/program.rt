@@ -14,7 +14,7 @@ use crate::solve::solve_with;
 use crate::status::{NO_MEMORY, USAGE};
 use crate::words::{Command, Names, WordsRefusal, read_words};
 use coord_io::{Folder, Sink};
-use lp_advice::NullAdviser;
+use lp_advice::LpAdviser;
 use std::alloc::Global;
 
 /// The line for words that fit no command.
@@ -82,7 +82,7 @@ fn carry_out<F: Folder, K: Sink>(
             cert,
             *gap,
             *budget,
-            &mut NullAdviser,
+            &mut LpAdviser::new(),
         ),
         Command::Pairs { network } => pairs(alloc, folder, out, network),
         Command::Margins {

@@ -3,8 +3,30 @@
 //! No clause says anything of what is advised: whoever asks checks the answer.
 #![tactic(auto)]
 
-mod adviser;
-mod null;
+mod advising;
+mod ahead;
+mod basis;
+mod blocking;
+mod candidates;
+mod duals;
+mod factors;
+mod fixed;
+mod memory;
+mod mixing;
+mod peeling;
+mod pickups;
+mod pivot;
+mod programme;
+mod scale;
+mod seeking;
+mod simplex;
+mod splitting;
+mod tables;
+mod thinning;
+mod worst;
 
-pub use adviser::{Advice, Adviser};
-pub use null::NullAdviser;
+pub use advice::{Advice, Adviser, NullAdviser};
+pub use advising::LpAdviser;
+
+#[cfg(test)]
+mod tests;

@@ -4,7 +4,7 @@ use Rattle.coord_model.specs.Tree.{Tree, split, empty, void, bound, hair}
 use Rattle.margin_rows.specs.Box.{Box}
 use Rattle.margin_rows.specs.Case.{Case}
 use Rattle.margin_rows.specs.Halves.{AreHalves}
-use Rattle.lp_advice.specs.declared.adviser.Advice.{Advice}
+use Rattle.advice.specs.declared.adviser.Advice.{Advice}
 use Rattle.step_rules.specs.OpenBoxes.{IsOpenBox}
 use Rattle.step_rules.specs.Rules.{Advised, IsSplit, TightensTo, open_with}
 use Rattle.step_rules.specs.Usable.{LeafWeights, leaf_weights}

@@ -6,7 +6,7 @@ ghost use Rattle.margin_rows.specs.Lowest.{HasOnePickup};
 ghost use Rattle.step_rules.specs.Rules.{IsFirstSplit, IsSplitPlace};
 ghost use Rattle.step_rules.specs.Handlings.{advised_of};
 
-use lp_advice::Advice;
+use advice::Advice;
 use margin_rows::{Instance, Ranges};
 
 /// The relay and the pickup step to split a box at: the advised ones if it can be split there, else the lowest step of

@@ -20,9 +20,9 @@ use crate::open_box::OpenBox;
 use crate::place::split_place;
 use crate::tight_box::{TightBox, tight_box};
 use crate::weights::{bound_by, can_bound, is_void, plain_weights};
+use advice::{Advice, Adviser};
 use box_range::{Tightened, tighten};
 use coord_model::{NoMemory, Weights};
-use lp_advice::{Advice, Adviser};
 use margin_rows::{Instance, Ranges, first_unmet};
 use std::alloc::Global;
 

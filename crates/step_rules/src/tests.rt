@@ -5,9 +5,9 @@ ghost use Rattle.step_rules.specs.Handlings.{LeavesHalves};
 ghost use Rattle.step_rules.specs.OpenBoxes.{IsOpenBox};
 
 use crate::{Handling, Issued, OpenBox, handle};
+use advice::{Advice, Adviser, NullAdviser};
 use coord_model::{NoMemory, Weight, Weights};
 use hand_studies::{Limits, parallel_lines, tied_lines, two_lines, two_pickups};
-use lp_advice::{Advice, Adviser, NullAdviser};
 use margin_rows::{BuildFault, Instance, Ranges, least_gap};
 use std::alloc::Global;
 
