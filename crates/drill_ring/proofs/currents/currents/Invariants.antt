@@ -1,0 +1,7 @@
+use Rattle.std.proofs.Common.{◌≡◌, ◌-◌}
+use Rattle.std.specs.List.{range_with_len, flat_map}
+use Rattle.drill_ring.specs.DrillCurrents.{currents_of}
+use Rattle.drill_ring.proofs.currents.currents.Given as goal
+
+abbrev pub invariant-loop-k : goal.invariant-loop-k
+invariant-loop-k l = l.entries.items ≡ flat_map (currents_of l.n) (range_with_len 1 (l.k - 1))
