@@ -4,4 +4,6 @@ pub mod Goings
 pub mod HandedOver
 pub mod Outcomes
 mod Places
+mod QuietGoings
+mod QuietPlaces
 pub mod Readings

@@ -1,9 +1,11 @@
 //! The files of the disk. What a real file holds is outside what is proved.
 ghost use Rattle.std.specs.Prelude.{◌≡◌, None, ◌≤◌, IfOk, length};
+ghost use Rattle.coord_io.specs.Refusals.{fail_of};
 
 use crate::counts::raise;
+use crate::inodes::{Inodes, inode_of};
 use crate::{Failed, Folder, ReadFail};
-use std::fs::OpenOptions;
+use std::fs::{OpenFile, OpenOptions};
 use std::io::{ErrorKind, Read, Seek, SeekFrom, Write};
 use std::marker::Model;
 use std::rt::Files;
@@ -11,11 +13,13 @@ use std::{fs, io};
 
 /// The files of the disk, by path. It tells nothing of what they hold, and counts each error.
 ///
-/// The file that was read last stays open, so that its pieces are those of one file.
+/// The file that was read last stays open, so that its pieces are those of one file. A file that was read isn't started,
+/// whatever path leads to it: `start` fails and leaves it as it is.
 #[derive(Drop)]
 pub struct DiskFolder<'a, R: Files> {
     rt: &'a R,
     last: Option<Opened<R::File>>,
+    read: Inodes,
     read_faults: u64,
     write_faults: u64,
 }
@@ -43,6 +47,7 @@ impl<'a, R: Files> DiskFolder<'a, R> {
         DiskFolder {
             rt,
             last: None,
+            read: Inodes::new(),
             read_faults: 0,
             write_faults: 0,
         }
@@ -53,23 +58,19 @@ impl<'a, R: Files + AllocGlobal> Folder for DiskFolder<'a, R> {
     ghost state = { λ s. record { files = None; reads = s.reads; writes = s.writes } };
 
     fn read_at(&mut self, name: &str, place: u64, buf: &mut [u8]) -> Result<usize, ReadFail> {
-        match read_from(self.rt, &mut self.last, name, place, buf) {
+        match read_from(self.rt, &mut self.last, &mut self.read, name, place, buf) {
             Ok(count) => Ok(count),
             Err(error) => {
                 raise(&mut self.read_faults);
-                if error.kind() == ErrorKind::NotFound {
-                    Err(ReadFail::Missing)
-                } else {
-                    Err(ReadFail::Failed)
-                }
+                Err(read_fail(error.kind()))
             }
         }
     }
 
     fn start(&mut self, name: &str) -> Result<(), Failed> {
         self.last = None;
-        match fs::create(self.rt, name) {
-            Ok(_file) => Ok(()),
+        match start_unread(self.rt, &self.read, name) {
+            Ok(()) => Ok(()),
             Err(_error) => {
                 raise(&mut self.write_faults);
                 Err(Failed)
@@ -88,10 +89,21 @@ impl<'a, R: Files + AllocGlobal> Folder for DiskFolder<'a, R> {
     }
 }
 
-/// Reads once from that place on. A reading from the start opens the file of that name anew.
+/// What a read answers at an error of that kind.
+fn read_fail(kind: ErrorKind) -> ReadFail
+    ensures { result ≡ fail_of kind }
+{
+    match kind {
+        ErrorKind::NotFound => ReadFail::Missing,
+        _ => ReadFail::Failed,
+    }
+}
+
+/// Reads once from that place on. A reading from the start opens the file of that name anew, and notes that it was read.
 fn read_from<R: Files + AllocGlobal>(
     rt: &R,
     last: &mut Option<Opened<R::File>>,
+    read: &mut Inodes,
     name: &str,
     place: u64,
     buf: &mut [u8],
@@ -104,6 +116,7 @@ fn read_from<R: Files + AllocGlobal>(
         }
     }
     let mut file = fs::open(rt, name)?;
+    read.note(inode_of(&file.metadata()?));
     let count = read_once(&mut file, place, buf)?;
     // Without memory for the name the next piece opens the file again.
     *last = match String::from_str(rt.alloc(), name) {
@@ -119,6 +132,22 @@ fn read_once<F: Read + Seek>(file: &mut F, place: u64, buf: &mut [u8]) -> io::Re
 {
     file.seek(SeekFrom::Start(place))?;
     file.read(buf)
+}
+
+/// Makes the file, empty, or empties it, unless it was read.
+///
+/// It is opened as it is, and emptied only once it is known which file it is.
+fn start_unread(rt: &impl Files, read: &Inodes, name: &str) -> io::Result<()> {
+    let file = OpenOptions::new().write(true).create(true).open(rt, name)?;
+    let metadata = file.metadata()?;
+    if read.may_have(inode_of(&metadata)) {
+        return Err(io::Error::from(ErrorKind::AlreadyExists));
+    }
+    // What has no length, as a terminal, can't be cut.
+    if metadata.len() == 0 {
+        return Ok(());
+    }
+    file.set_len(0)
 }
 
 /// Writes once at the end of a file that is there.

@@ -1,6 +1,7 @@
 //! What no clause says: that calls succeed, which planned call fails, and that a real file is read as written.
 use super::*;
 use coord_model::Name;
+use std::os::unix::fs::symlink;
 use std::process::Abort;
 use std::{fs, test};
 
@@ -102,5 +103,178 @@ fn pieces_of_the_disk_are_those_of_their_file(rt: HostRuntime) -> Result<(), tes
     }
     fs::remove_file(&rt, "coord_io_a")?;
     fs::remove_file(&rt, "coord_io_b")?;
+    Ok(())
+}
+
+fn quiet_file(
+    rt: &(impl Abort + AllocGlobal),
+    name: &[u8],
+    bytes: &[u8],
+    room: u32,
+) -> Result<QuietFile, test::Fail> {
+    let bytes = Vec::from_slice(rt.alloc(), bytes)?;
+    let name = Name::new(name).expect(rt, "a name");
+    Ok(QuietFile { name, bytes, room })
+}
+
+/// A quiet folder with the files `net` of six bytes and `sheet` of none, each with a room of eight.
+fn quiet_folder(rt: &(impl Abort + AllocGlobal)) -> Result<QuietFolder, test::Fail> {
+    let net = quiet_file(rt, b"net", b"abcdef", 8)?;
+    let sheet = quiet_file(rt, b"sheet", b"", 8)?;
+    let files = vec![in rt.alloc(); net, sheet]?;
+    assert!(rt; are_quiet(&files));
+    Ok(QuietFolder::new(files)?)
+}
+
+#[test]
+#[tactic(auto, using(crate::proofs::Changes::started_there))]
+fn a_quiet_folder_tells_what_is_within_its_rooms(rt: HostRuntime) -> Result<(), test::Fail> {
+    let mut folder = quiet_folder(&rt)?;
+    let mut buf = [0; 4];
+    put_whole(&mut folder, "sheet", b"ok\n")?;
+    append_whole(&mut folder, "sheet", b"end 1")?;
+    assert_eq!(rt; folder.bytes("sheet"), Some(b"ok\nend 1".as_slice()));
+    assert!(rt; matches!(folder.read_at("sheet", 6, &mut buf), Ok(2)));
+    assert_eq!(rt; &buf[..2], b" 1".as_slice());
+    assert!(rt; matches!(folder.read_at("other", 0, &mut buf), Err(ReadFail::Missing)));
+    put_whole(&mut folder, "sheet", b"")?;
+    assert_eq!(rt; folder.bytes("sheet"), Some(b"".as_slice()));
+    assert_eq!(rt; folder.bytes("net"), Some(b"abcdef".as_slice()));
+    assert!(rt; folder.bytes("other").is_none());
+    Ok(())
+}
+
+#[test]
+fn a_quiet_folder_tells_nothing_after_a_piece_outgrew_its_room(
+    rt: HostRuntime,
+) -> Result<(), test::Fail> {
+    let mut folder = quiet_folder(&rt)?;
+    let mut buf = [0; 4];
+    put_whole(&mut folder, "net", b"abcdefghi")?;
+    assert!(rt; folder.bytes("net").is_none());
+    assert!(rt; folder.bytes("sheet").is_none());
+    assert!(rt; matches!(folder.read_at("net", 0, &mut buf), Ok(0)));
+    assert!(rt; matches!(folder.read_at("other", 0, &mut buf), Ok(0)));
+    put_whole(&mut folder, "net", b"x")?;
+    assert!(rt; folder.bytes("net").is_none());
+    Ok(())
+}
+
+#[test]
+fn a_quiet_folder_tells_nothing_after_another_file_is_started(
+    rt: HostRuntime,
+) -> Result<(), test::Fail> {
+    let mut folder = quiet_folder(&rt)?;
+    put_whole(&mut folder, "other", b"longer than any room")?;
+    assert!(rt; folder.bytes("net").is_none());
+    assert!(rt; read_whole(rt.alloc(), &mut folder, "other", 99)?.is_empty());
+    Ok(())
+}
+
+#[test]
+fn files_past_their_room_or_of_one_name_are_not_quiet(rt: HostRuntime) -> Result<(), test::Fail> {
+    let rows: [(&[u8], &[u8], u32, bool); 4] = [
+        (b"net", b"", 0, true),
+        (b"net", b"abc", 3, true),
+        (b"net", b"abc", 2, false),
+        (b"sheet", b"", 8, false),
+    ];
+    for (name, bytes, room, quiet) in &rows {
+        let first = quiet_file(&rt, name, bytes, *room)?;
+        let second = quiet_file(&rt, b"sheet", b"", 8)?;
+        let files = vec![in rt.alloc(); first, second]?;
+        assert_eq!(rt; are_quiet(&files), *quiet);
+    }
+    Ok(())
+}
+
+#[test]
+fn a_quiet_sink_tells_what_is_within_its_room(rt: HostRuntime) -> Result<(), test::Fail> {
+    let mut out = QuietSink::new(rt.alloc(), 5)?;
+    write_whole(&mut out, b"abc")?;
+    write_whole(&mut out, b"de")?;
+    assert_eq!(rt; out.bytes(), Some(b"abcde".as_slice()));
+    assert!(rt; matches!(out.write(b"f"), Ok(1)));
+    assert!(rt; out.bytes().is_none());
+    write_whole(&mut out, b"")?;
+    assert!(rt; out.bytes().is_none());
+    Ok(())
+}
+
+#[test]
+fn a_folder_of_the_disk_has_no_bytes_and_a_missing_file_is_missing(
+    rt: HostRuntime,
+) -> Result<(), test::Fail> {
+    let mut folder = DiskFolder::new(&rt);
+    let mut buf = [0; 4];
+    assert!(rt; matches!(folder.read_at(".", 0, &mut buf), Err(ReadFail::Failed)));
+    assert!(rt;
+        matches!(
+            folder.read_at("coord_io_none", 0, &mut buf),
+            Err(ReadFail::Missing)
+        )
+    );
+    assert!(rt;
+        matches!(
+            folder.read_at("coord_io_none/sheet", 0, &mut buf),
+            Err(ReadFail::Missing)
+        )
+    );
+    Ok(())
+}
+
+#[test]
+fn a_file_of_the_disk_that_was_read_is_not_started(rt: HostRuntime) -> Result<(), test::Fail> {
+    let mut folder = DiskFolder::new(&rt);
+    let mut buf = [0; 8];
+    put_whole(&mut folder, "coord_io_network", b"abcdef")?;
+    fs::hard_link(&rt, "coord_io_network", "coord_io_hard")?;
+    symlink(&rt, "coord_io_network", "coord_io_soft")?;
+    put_whole(&mut folder, "coord_io_soft", b"abc")?;
+    assert!(rt; matches!(folder.read_at("coord_io_network", 0, &mut buf), Ok(3)));
+
+    for name in &[
+        "coord_io_network",
+        "./coord_io_network",
+        "coord_io_hard",
+        "coord_io_soft",
+    ] {
+        assert!(rt; folder.start(name).is_err(), "{name}");
+    }
+    assert!(rt; matches!(folder.read_at("coord_io_hard", 0, &mut buf), Ok(3)));
+    assert!(rt; folder.start("coord_io_sheet").is_ok());
+    for name in &[
+        "coord_io_soft",
+        "coord_io_hard",
+        "coord_io_network",
+        "coord_io_sheet",
+    ] {
+        fs::remove_file(&rt, name)?;
+    }
+    Ok(())
+}
+
+#[test]
+fn after_a_fifth_file_was_read_none_is_started(rt: HostRuntime) -> Result<(), test::Fail> {
+    let mut folder = DiskFolder::new(&rt);
+    let mut buf = [0; 4];
+    let rows = [
+        ("coord_io_1", true),
+        ("coord_io_2", true),
+        ("coord_io_3", true),
+        ("coord_io_4", true),
+        ("coord_io_5", false),
+    ];
+    for (name, _) in &rows {
+        put_whole(&mut folder, name, b"abc")?;
+    }
+    for (name, starts) in &rows {
+        folder.read_at(name, 0, &mut buf)?;
+        assert_eq!(rt; folder.start("coord_io_sixth").is_ok(), *starts, "{name}");
+    }
+    for (name, _) in &rows {
+        fs::remove_file(&rt, name)?;
+    }
+    fs::remove_file(&rt, "coord_io_sixth")?;
     Ok(())
 }

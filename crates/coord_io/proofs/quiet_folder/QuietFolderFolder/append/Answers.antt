@@ -1,0 +1,7 @@
+use Rattle.std.proofs.Common.{ap}
+use Rattle.std.proofs.Math.Seq.{take-length}
+use Rattle.coord_io.proofs.QuietGoings.{grown_gains}
+use Rattle.coord_io.proofs.quiet_folder.QuietFolderFolder.append.Goals as goal
+
+pub returns-clause-added : goal.returns-clause-added
+returns-clause-added c = rw take-length (grown_gains _ _ _ _ _ (ap (λ s. s.files) c.add.ensures))
