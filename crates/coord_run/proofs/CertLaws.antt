@@ -1,27 +1,22 @@
 -- The certificate of an outcome is one that has a text, and it is right: its tree holds and its claim agrees.
 use Rattle.std.specs.Prelude.{slice_get, slice_index, nat_le, if◌then◌else◌}
-use Rattle.std.specs.List.{All, AllByRecursion}
 use Rattle.std.specs.Option.{option_map}
-use Rattle.std.proofs.Common.{◌≡◌, ◌≢◌, ◌∙◌, ℕ, ◌+◌, ◌^◌, ◌<◌, ◌≤◌, ◌⊎◌, Bool, true, false, inl, inr, List, length, get_or, Option, Some, None, is_some, IfSome, ap, arith, refl, subst, sym}
+use Rattle.std.proofs.Common.{◌≡◌, ◌∙◌, ℕ, ◌^◌, ◌<◌, ◌≤◌, Bool, true, false, inl, inr, length, Option, Some, None, IfSome, ap, arith, refl, subst, sym}
 use Rattle.std.proofs.lemmas.List.{get_or_default}
 use Rattle.std.proofs.lemmas.List.Elements.{recursion_from_All}
 use Rattle.branch_bound.specs.Machine.{IsDone}
 use Rattle.branch_bound.specs.Outcome.{IsOutcome}
 use Rattle.branch_bound.specs.declared.outcome.Outcome.{Outcome}
-use Rattle.cert_check.specs.Claims.{Agrees, AreSettingsRight, IfPrinted, IsGapEnough, IsOfStudy, IsPriced, study_head}
+use Rattle.cert_check.specs.Claims.{IfPrinted, IsOfStudy, IsPriced, study_head}
 use Rattle.cert_check.specs.Rightness.{IsRight}
-use Rattle.cert_check.specs.TreeGives.{found_of}
 use Rattle.cert_text.specs.CertData.{AreIssued, AreSettings, IsCert, IsCertTree, IsHead, IsStudyHead}
-use Rattle.cert_text.specs.Nodes.{IsNode}
 use Rattle.cert_tree.specs.Endings.{boxes, ending_of, has_open_leaf}
 use Rattle.cert_tree.specs.Holding.{Holds}
 use Rattle.coord_model.specs.Allowed.{AreOnSteps, IsOnSteps}
 use Rattle.coord_model.specs.Choice.{Settings, choice_data}
 use Rattle.coord_model.specs.PartLimits.{FitsRelay}
-use Rattle.coord_model.specs.Tree.{Tree, bound, depth, empty, hair, nodes_of, open_leaf, shape, split, void}
+use Rattle.coord_model.specs.Tree.{Tree, bound, empty, hair, open_leaf, shape, split, void}
 use Rattle.coord_model.specs.declared.choice.Choice.{Choice}
-use Rattle.coord_model.specs.declared.choice.Ending.{Ending}
-use Rattle.coord_model.specs.declared.cert.StudyHead.{StudyHead}
 use Rattle.coord_run.proofs.CertNodes.{nodes_held}
 use Rattle.coord_run.proofs.EndingLaws.{few_of}
 use Rattle.coord_run.proofs.GapLaws.{gap_within}
@@ -33,7 +28,7 @@ use Rattle.margin_rows.proofs.Placed.{of_some}
 use Rattle.margin_rows.proofs.Spanned.{first_box_fits}
 use Rattle.margin_rows.proofs.Timed.{at_place}
 use Rattle.margin_rows.proofs.Written.{in_list}
-use Rattle.margin_rows.specs.Case.{Case, FitsCase, rows_in}
+use Rattle.margin_rows.specs.Case.{Case, FitsCase}
 use Rattle.margin_rows.specs.FirstBox.{IsInFirstBox}
 use Rattle.margin_rows.specs.Least.{IsStrictLeast}
 use Rattle.margin_rows.specs.Price.{cost_of}

@@ -1,11 +1,11 @@
 -- The nodes of a tree that holds are those that a certificate may have.
-use Rattle.std.specs.Prelude.{◌*ℤ◌, ◌+ℤ◌, ◌-ℤ◌, ◌<ℤ◌, ℤ, map, pos, slice_get}
+use Rattle.std.specs.Prelude.{◌<ℤ◌, ℤ, pos, slice_get}
 use Rattle.std.specs.List.{All, AllByRecursion}
 use Rattle.std.specs.Option.{IsSomeAnd}
-use Rattle.std.proofs.Common.{◌≡◌, ◌∙◌, ℕ, zero, suc, ◌+◌, ◌*◌, ◌-◌, ◌^◌, ◌<◌, ◌≤◌, List, [], ◌∷◌, length, Option, arith, ap, refl, subst, sym}
+use Rattle.std.proofs.Common.{◌≡◌, ◌∙◌, ℕ, suc, ◌+◌, ◌-◌, ◌^◌, ◌<◌, ◌≤◌, List, [], ◌∷◌, length, Option, arith, refl, subst, sym}
 use Rattle.std.proofs.lemmas.Int.{ints}
 use Rattle.std.proofs.lemmas.List.Elements.{All-head, All-tail}
-use Rattle.box_bound.specs.DualValue.{IsDualValue, IsLeastPart, at_dial, dials_of, part, pickups_of, total, weighted_constant}
+use Rattle.box_bound.specs.DualValue.{IsDualValue, IsLeastPart, dials_of, part, pickups_of, total}
 use Rattle.cert_text.proofs.PairWords.{all_append}
 use Rattle.cert_text.specs.Nodes.{AreWeights, IsNode}
 use Rattle.cert_text.specs.Pairs.{AreWithin}
@@ -13,7 +13,7 @@ use Rattle.cert_tree.proofs.TightBoxes.{tight_fits}
 use Rattle.cert_tree.proofs.TreeLaws.{can_split, halves_fit, parts}
 use Rattle.cert_tree.specs.Holding.{Holds}
 use Rattle.coord_model.specs.PartLimits.{FitsRelay}
-use Rattle.coord_model.specs.Tree.{Single, Tree, bound, empty, hair, nodes_of, open_leaf, split, void}
+use Rattle.coord_model.specs.Tree.{Tree, bound, empty, hair, nodes_of, open_leaf, split, void}
 use Rattle.coord_model.specs.TreeLimits.{AreLeafWeights, FitLeaves}
 use Rattle.coord_model.specs.declared.weights.Weight.{Weight}
 use Rattle.margin_rows.proofs.Places.{some_and}
@@ -23,7 +23,6 @@ use Rattle.margin_rows.specs.Box.{Box, FitsBox, IsIn}
 use Rattle.margin_rows.specs.Case.{Case, FitsCase, rows_in}
 use Rattle.margin_rows.specs.FirstBox.{IsFirstStep}
 use Rattle.margin_rows.specs.Halves.{CanSplit, HasNext}
-use Rattle.margin_rows.specs.declared.span.Steps.{Steps}
 
 -- ---- without weights of rows and without lambda a dual value is 0
 

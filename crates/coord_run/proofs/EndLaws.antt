@@ -1,5 +1,5 @@
 -- How a command ends whose work is handed over.
-use Rattle.std.proofs.Common.{◌≡◌, ◌≤◌, arith, inl, inr, ℕ, [], ◌∷◌, List, le_refl, refl, Result, Ok, Err, OnErr, Some, None, IfOk, IfErr, IfSome, subst, sym}
+use Rattle.std.proofs.Common.{◌≡◌, ◌≤◌, arith, inl, inr, ℕ, [], ◌∷◌, List, le_refl, refl, Result, Ok, Err, OnErr, Some, None, IfOk, IfErr, subst, sym}
 use Rattle.coord_io.proofs.Goings.{goes_as, goes_on, goes_stays}
 use Rattle.coord_io.specs.Faults.{Rose}
 use Rattle.coord_io.specs.Files.{Becomes, Files, StaysOrPart}

@@ -1,6 +1,6 @@
 -- What each ending of a tree says of its counts, its bound and its cost.
-use Rattle.std.specs.Prelude.{Option, Some, None, ℤ, pos, negsuc, min, is_some, nat_le, not, if◌then◌else◌, IfSome, IsSome, IsNone}
-use Rattle.std.proofs.Common.{◌≡◌, ◌∙◌, ℕ, ◌+◌, ◌*◌, ◌/◌, ◌-◌, ◌^◌, ◌<◌, ◌≤◌, ◌&&◌, Bool, true, false, arith, refl, sym, ap, subst}
+use Rattle.std.specs.Prelude.{Option, Some, None, ℤ, pos, negsuc, is_some, nat_le, not, if◌then◌else◌}
+use Rattle.std.proofs.Common.{◌≡◌, ℕ, ◌+◌, ◌^◌, ◌<◌, ◌≤◌, ◌&&◌, Bool, true, false, arith, refl, sym, subst}
 use Rattle.std.proofs.lemmas.Bool.Decides.{nat_tests}
 use Rattle.box_bound.specs.LowerBound.{bound_at}
 use Rattle.cert_tree.specs.Endings.{has_no_settings, is_close}

@@ -1,14 +1,12 @@
 -- Bytes that are gathered in a room, and go from there to a file.
-use Rattle.std.specs.List.{flat_map}
 use Rattle.std.specs.Option.{ForSome}
-use Rattle.std.proofs.Common.{◌≡◌, ◌∙◌, ℕ, zero, suc, take, List, [], ◌∷◌, ◌++◌, Option, Result, Ok, Err, IsOk, is_ok, cond, ap, append-nil, append_assoc, refl, subst, sym}
-use Rattle.coord_io.proofs.Changes.{gained_there, gains_more}
+use Rattle.std.proofs.Common.{◌≡◌, ◌∙◌, ℕ, zero, suc, take, List, [], ◌∷◌, ◌++◌, Result, Ok, Err, IsOk, is_ok, cond, ap, append-nil, append_assoc, refl, subst, sym}
+use Rattle.coord_io.proofs.Changes.{gains_more}
 use Rattle.coord_io.proofs.Goings.{goes_as, goes_on}
 use Rattle.coord_io.proofs.HandedOver.{Handed, handed_none, handed_part}
-use Rattle.coord_io.specs.Files.{Files, Gains, GainsPart, HasFile}
-use Rattle.coord_io.specs.Goes.{Goes}
+use Rattle.coord_io.specs.Files.{Gains, GainsPart, HasFile}
 use Rattle.coord_io.specs.Outside.{Changes, FolderState}
-use Rattle.coord_text.specs.Claims.{ended, text_of}
+use Rattle.coord_text.specs.Claims.{text_of}
 use Rattle.cert_text.specs.Printing.{Prints}
 use Rattle.coord_run.specs.Pieces.{LeavesRest}
 

@@ -1,5 +1,5 @@
 -- The headline of `solve` follows from all that it does.
-use Rattle.std.proofs.Common.{◌≡◌, ◌≢◌, ◌∙◌, inl, inr, ◌⊎◌, is_some, Bool, ℕ, ◌≤◌, true, false, cond, Some, None, List, [], ◌∷◌, ◌++◌, IfSome, All, ap, arith, refl, subst, sym}
+use Rattle.std.proofs.Common.{◌≡◌, ◌≢◌, ◌∙◌, inl, inr, ◌⊎◌, is_some, Bool, ℕ, ◌≤◌, true, false, cond, Some, List, [], ◌∷◌, ◌++◌, ap, arith, refl, subst, sym}
 use Rattle.std.specs.Str.{bytes_eq}
 use Rattle.std.proofs.lemmas.Slice.Eq.{bytes_eq-Decides}
 use Rattle.coord_io.proofs.Changes.{held-with_file}
@@ -9,17 +9,19 @@ use Rattle.coord_io.specs.Outside.{Changes, FolderState, SinkState, Takes}
 use Rattle.coord_io.specs.Written.{Gained}
 use Rattle.coord_io.specs.Goes.{Stays}
 use Rattle.coord_run.specs.End.{AreCutAt, AreWritten, End, FileText, HasEnd, IsPrinted, OutputData, Puts, done, no_memory, refused, unwritten}
-use Rattle.coord_run.specs.Headline.{Coordinates, Headline, IsEnding}
+use Rattle.coord_run.specs.Headline.{Asserts, Coordinates, Headline, IsEnding}
 use Rattle.coord_run.specs.Printing.{Prints}
 use Rattle.coord_run.specs.Certified.{cert_of}
 use Rattle.cert_text.specs.CertText.{cert_text}
 use Rattle.coord_run.specs.Report.{sheet_of}
-use Rattle.coord_run.specs.Solve.{IsSolved, SolveCause, Solves}
+use Rattle.coord_run.specs.Solve.{ComesTo, IsSolved, SolveCause, Solves}
 use Rattle.coord_run.specs.Status.{outcome_status, refusal_status}
 use Rattle.coord_run.specs.SolveWords.{SolveWords}
 use Rattle.coord_run.specs.declared.refusal.Refusal.{Refusal}
-use Rattle.coord_run.specs.declared.refusal.Refusal.TheVariants.{Missing, ReadFault, TooLong, NotText, NotToml, Network, TooMany, BadHeader, BadRecord, UnknownFault, UnknownRelay, BadAmps, DoubleEntry, NoPrimary, GapTooSmall, SheetLine, SheetPickup}
+use Rattle.coord_run.specs.declared.refusal.Refusal.TheVariants.{Missing, ReadFault, TooLong, NotText, NotToml, Network, TooMany, BadHeader, BadRecord, UnknownFault, UnknownRelay, BadAmps, DoubleEntry, NoPrimary, GapTooSmall, CertLine, CertNode, CertClaim, SheetLine, SheetPickup}
 use Rattle.coord_run.proofs.OutcomeLaws.{allowed, at_most, below_all, closed_of, closed_says, hairline_of, hairline_says, none_of, none_says, spent_of, spent_says}
+use Rattle.branch_bound.specs.declared.outcome.Outcome.{Outcome}
+use Rattle.margin_rows.specs.Case.{Case}
 use Rattle.settings_sheet.specs.SheetText.{sheet_text}
 
 -- the status of an ending is that of no refusal
@@ -47,6 +49,9 @@ refusal_large (BadAmps n) = omega arith
 refusal_large (DoubleEntry n) = omega arith
 refusal_large (NoPrimary name) = omega arith
 refusal_large (GapTooSmall given least) = omega arith
+refusal_large (CertLine line kind) = omega arith
+refusal_large (CertNode number kind) = omega arith
+refusal_large (CertClaim fault) = omega arith
 refusal_large (SheetLine line kind) = omega arith
 refusal_large (SheetPickup name) = omega arith
 
@@ -62,6 +67,23 @@ four_or_five status (inr is) = (omega (arith, is), omega (arith, is))
 six_or_seven : (status : ℕ) → (status ≡ 6) ⊎ (status ≡ 7) → 6 ≤ status
 six_or_seven status (inl is) = omega (arith, is)
 six_or_seven status (inr is) = omega (arith, is)
+
+-- the outcome of a search is as it asserts
+pub asserts : (case : Case) (asked : SolveWords) (outcome : Outcome) (comes : ComesTo case asked outcome) (status : ℕ) → status ≡ outcome_status outcome
+    → Asserts case comes.gap asked.budget outcome status
+asserts case asked outcome comes status own =
+    let with_settings : Bool = is_some outcome.issued in
+    record {
+      settings_allowed = allowed case asked outcome comes;
+      cost_at_most = at_most case asked outcome comes;
+      bound_below_all = below_all case asked outcome comes;
+      close_at_closed = λ zero. closed_says case asked outcome comes (closed_of outcome.ending with_settings (sym own ∙ zero));
+      no_settings_true = λ three. none_says case asked outcome comes (none_of outcome.ending with_settings (sym own ∙ three));
+      spent_at_budget = λ spent. spent_says case asked outcome comes (spent_of outcome.ending with_settings (omega (arith, own, (four_or_five status spent).0)) (omega (arith, own, (four_or_five status spent).1)));
+      hairline_at_hair = λ hairline. hairline_says case asked outcome comes (hairline_of outcome.ending with_settings (omega (arith, own, six_or_seven status hairline)));
+      reached_by_steps = comes.reached;
+      status_is = own;
+    }
 
 -- other names than these two are held as before
 abbrev OthersStay : List ℕ → List ℕ → Files → Files → Type 0
@@ -121,8 +143,7 @@ module _ (asked : SolveWords) (before after : FolderState) (sink_before sink_aft
       let comes = is.of_case.comes in
       let own : status ≡ outcome_status outcome = printed.0 ∙ ap (λ (o : OutputData). o.status) is.of_case.is in
       let puts = subst (λ (o : OutputData). Changes before after (Puts o.files)) is.of_case.is put.puts in
-      let with_settings : Bool = is_some outcome.issued in
-      let cert : FileText = record { name = asked.cert; text = cert_text (cert_of case outcome) } in
+      let cert : FileText = record { name = asked.names.cert; text = cert_text (cert_of case outcome) } in
       let sheet : FileText = record { name = asked.names.sheet; text = sheet_text case.study (sheet_of outcome) } in
       record {
         case = case;
@@ -130,17 +151,9 @@ module _ (asked : SolveWords) (before after : FolderState) (sink_before sink_aft
         gap = comes.gap;
         inputs_as_read = is.inputs;
         gap_as_asked = comes.is_gap;
-        settings_allowed = allowed case asked outcome comes;
-        cost_at_most = at_most case asked outcome comes;
-        bound_below_all = below_all case asked outcome comes;
-        close_at_closed = λ zero. closed_says case asked outcome comes (closed_of outcome.ending with_settings (sym own ∙ zero));
-        no_settings_true = λ three. none_says case asked outcome comes (none_of outcome.ending with_settings (sym own ∙ three));
-        spent_at_budget = λ spent. spent_says case asked outcome comes (spent_of outcome.ending with_settings (omega (arith, own, (four_or_five status spent).0)) (omega (arith, own, (four_or_five status spent).1)));
-        hairline_at_hair = λ hairline. hairline_says case asked outcome comes (hairline_of outcome.ending with_settings (omega (arith, own, six_or_seven status hairline)));
-        reached_by_steps = comes.reached;
+        truth = asserts case asked outcome comes status own;
         certificate_is_text = record { is = is.of_case.cert_fits; text = refl };
         certificate_right = is.of_case.cert_right;
-        status_is = own;
         files_written = goes_as (λ m n was both. both_put cert sheet m n both) puts;
         report_printed = subst (λ (o : OutputData). Takes sink_before sink_after (Gained o.report)) is.of_case.is printed.1;
       }
@@ -149,8 +162,8 @@ module _ (asked : SolveWords) (before after : FolderState) (sink_before sink_aft
   pub headline : Solves asked before after sink_before sink_after status → Headline asked before after sink_before sink_after status
   headline solves = go solves.end solves.caused solves.printed
     where
-      stay : Changes before after Stays → Changes before after (OthersStay asked.names.sheet asked.cert)
-      stay same = goes_as (λ m n was is. stays_same asked.names.sheet asked.cert m n is) same
+      stay : Changes before after Stays → Changes before after (OthersStay asked.names.sheet asked.names.cert)
+      stay same = goes_as (λ m n was is. stays_same asked.names.sheet asked.names.cert m n is) same
 
       go : (end : End) → HasEnd (SolveCause asked before after) (IsSolved asked before after) before after end → IsPrinted asked.names end sink_before sink_after status
           → Headline asked before after sink_before sink_after status
@@ -166,7 +179,7 @@ module _ (asked : SolveWords) (before after : FolderState) (sink_before sink_aft
         at_ending = λ ending. absurd (not_printed _ 11 sink_before sink_after status (omega arith) printed ending);
         only_its_files_change =
             let cut = subst (λ (o : OutputData). AreCutAt o.files file before after) caused.0.of_case.is caused.1 in
-            cut_stay (record { name = asked.cert; text = _ }) (record { name = asked.names.sheet; text = _ }) file before after cut;
+            cut_stay (record { name = asked.names.cert; text = _ }) (record { name = asked.names.sheet; text = _ }) file before after cut;
       }
       go (done output) caused printed = record {
         at_ending = written output caused.0 caused.1 printed;

@@ -121,7 +121,7 @@ pub record SolveKept (words : List Text) (found : Found) : Type 0 where
   pub network_is : first_value found (codes "network") ≡ Some texts.names.network
   pub currents_is : first_value found (codes "currents") ≡ Some texts.names.currents
   pub sheet_is : first_value found (codes "sheet") ≡ Some texts.names.sheet
-  pub cert_is : first_value found (codes "cert") ≡ Some texts.cert
+  pub cert_is : first_value found (codes "cert") ≡ Some texts.names.cert
   pub gap_is : first_value found (codes "gap") ≡ texts.gap
   pub budget_is : first_value found (codes "budget") ≡ texts.budget
 
@@ -138,14 +138,12 @@ solve_of_names words found k (x ∷ y ∷ z ∷ t ∷ []) is many =
     let cert = codes "cert" in
     record {
       texts = record {
-        names = record { network = x; currents = y; sheet = z };
-        cert = t;
+        names = record { network = x; currents = y; sheet = z; cert = t };
         gap = word_of (codes "gap") k.uses;
         budget = word_of (codes "budget") k.uses;
       };
       said = ap (option_and_then solve_texts) k.said ∙ ap (λ ns. option_map (λ names. record {
-        names = names.0;
-        cert = names.1;
+        names = names;
         gap = word_of (codes "gap") k.uses;
         budget = word_of (codes "budget") k.uses;
       }) (four_names ns)) is;
@@ -169,19 +167,18 @@ module _ {Z : Type 0} (texts : List (String Z)) (a : App) (m : ArgMatches) (is :
 -- the words that are kept under the ids are those of `solve`
 pub solve_said : (words : List Text) (found : Found) → SolveKept words found → (texts : SolveTexts)
     → first_value found (codes "network") ≡ Some texts.names.network → first_value found (codes "currents") ≡ Some texts.names.currents
-    → first_value found (codes "sheet") ≡ Some texts.names.sheet → first_value found (codes "cert") ≡ Some texts.cert
+    → first_value found (codes "sheet") ≡ Some texts.names.sheet → first_value found (codes "cert") ≡ Some texts.names.cert
     → texts.gap ≡ first_value found (codes "gap") → texts.budget ≡ first_value found (codes "budget")
     → option_and_then solve_texts (uses_of solve_options words) ≡ Some texts
 solve_said words found k texts network_read currents_read sheet_read cert_read gap_read budget_read =
     let network = same_some k.texts.names.network texts.names.network (sym k.network_is ∙ network_read) in
     let currents = same_some k.texts.names.currents texts.names.currents (sym k.currents_is ∙ currents_read) in
     let sheet = same_some k.texts.names.sheet texts.names.sheet (sym k.sheet_is ∙ sheet_read) in
-    let cert = same_some k.texts.cert texts.cert (sym k.cert_is ∙ cert_read) in
+    let cert = same_some k.texts.names.cert texts.names.cert (sym k.cert_is ∙ cert_read) in
     let gap = sym k.gap_is ∙ sym gap_read in
     let budget = sym k.budget_is ∙ sym budget_read in
     k.said ∙ (λ i. Some (record {
-      names = record { network = network i; currents = currents i; sheet = sheet i };
-      cert = cert i;
+      names = record { network = network i; currents = currents i; sheet = sheet i; cert = cert i };
       gap = gap i;
       budget = budget i;
     }))

@@ -1,5 +1,7 @@
 pub mod CertLaws
 pub mod CertNodes
+pub mod CheckLaws
+pub mod DrillLaws
 pub mod EndLaws
 pub mod EndingLaws
 pub mod GapLaws

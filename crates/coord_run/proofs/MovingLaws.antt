@@ -1,7 +1,8 @@
 -- What a command hands over is that of the files as they were, also after it is written.
-use Rattle.std.proofs.Common.{ℕ, List}
-use Rattle.coord_io.specs.Files.{Files}
+use Rattle.std.proofs.Common.{◌≡◌, ℕ, Some, List}
+use Rattle.coord_io.specs.Files.{Files, held}
 use Rattle.coord_io.specs.Outside.{Changes, FolderState}
+use Rattle.coord_run.specs.Check.{IsCheckOutput}
 use Rattle.coord_run.specs.End.{OutputData}
 use Rattle.coord_run.specs.Inputs.{AreInputs, IsNetwork}
 use Rattle.coord_run.specs.Margins.{IsMarginsOutput}
@@ -38,6 +39,36 @@ margins_moves names before between after step moved output is =
             settings = report.settings;
             sheet = told_first before between after (λ m. GivesSettings m names.sheet case report.settings) report.sheet moved;
             fit = report.fit;
+            is = report.is;
+          },
+        ),
+      ),
+      is.1,
+      is.2,
+    )
+
+pub check_moves : (names : FileNames) (before between after : FolderState) (step : Files → Files → Type 0) → Changes between after step → (output : OutputData)
+    → IsCheckOutput names before between output → IsCheckOutput names before after output
+check_moves names before between after step moved output is =
+    let case = is.0.0 in
+    let report = is.0.2.1 in
+    let accepted = report.accepted in (
+      (
+        case,
+        told_first before between after (λ m. AreInputs m names.network names.currents case.study case.currents) is.0.1 moved,
+        (
+          is.0.2.0,
+          record {
+            claim = report.claim;
+            accepted = record {
+              bytes = accepted.bytes;
+              whole = record {
+                file = told_first before between after (λ m. held m names.cert ≡ Some accepted.bytes) accepted.whole.file moved;
+                within = accepted.whole.within;
+              };
+              answer = accepted.answer;
+            };
+            below_all = report.below_all;
             is = report.is;
           },
         ),

@@ -1,7 +1,7 @@
 -- What one may rest on after a search, by what its outcome is.
-use Rattle.std.specs.Prelude.{Option, Some, None, is_some, not, slice_get, slice_index, ⊤, IfSome, IsSome, IsSomeAnd}
+use Rattle.std.specs.Prelude.{Option, Some, None, is_some, not, ⊤, IfSome, IsSomeAnd}
 use Rattle.std.specs.Option.{option_map}
-use Rattle.std.proofs.Common.{◌≡◌, ◌∙◌, ℕ, ◌+◌, ◌*◌, ◌^◌, ◌<◌, ◌≤◌, ◌⊎◌, Bool, true, false, inl, inr, length, get_or, arith, refl, sym, ap, subst}
+use Rattle.std.proofs.Common.{◌≡◌, ◌∙◌, ℕ, ◌<◌, ◌≤◌, Bool, true, false, length, arith, refl, sym, ap, subst}
 use Rattle.std.proofs.lemmas.Bool.Decides.{Decides-eqb}
 use Rattle.branch_bound.specs.Outcome.{IsHairPlace, IsOutcome}
 use Rattle.branch_bound.specs.declared.outcome.HairPlace.{HairPlace}
@@ -9,24 +9,21 @@ use Rattle.branch_bound.specs.declared.outcome.Outcome.{Outcome}
 use Rattle.cert_tree.specs.Endings.{boxes, has_no_settings, has_open_leaf}
 use Rattle.cert_tree.proofs.Proving.{holds_proves}
 use Rattle.cert_tree.specs.Proving.{IsProved}
-use Rattle.coord_model.specs.Allowed.{AreOnSteps, IsAllowed, IsOnSteps, dial_of}
+use Rattle.coord_model.specs.Allowed.{AreOnSteps, IsAllowed}
 use Rattle.coord_model.specs.Choice.{Settings, choice_data}
-use Rattle.coord_model.specs.Cost.{CostsAtMost, weight_of}
+use Rattle.coord_model.specs.Cost.{CostsAtMost}
 use Rattle.coord_model.specs.declared.choice.Choice.{Choice}
 use Rattle.coord_model.specs.declared.choice.Ending.{Ending}
 use Rattle.coord_model.specs.declared.choice.Ending.TheVariants.{Closed, NoSettings, BudgetSpent, Hairline}
-use Rattle.coord_model.specs.declared.study.Term.{Term}
 use Rattle.coord_run.specs.Asserted.{IsBelowAll, IsClose, IsHairline, IsSpent}
-use Rattle.coord_run.specs.Report.{sheet_of}
 use Rattle.coord_run.specs.Shown.{IsShown}
 use Rattle.coord_run.specs.Solve.{ComesTo}
 use Rattle.coord_run.specs.SolveWords.{SolveWords}
-use Rattle.coord_run.specs.Status.{ending_status, outcome_status}
+use Rattle.coord_run.specs.Status.{ending_status}
 use Rattle.coord_run.proofs.EndingLaws.{both, close_says, closed_asks, hairline_asks, holds_short, holds_some, none_asks, spent_asks}
-use Rattle.margin_rows.specs.Case.{Case, FitsCase, row_at, rows_in, terms_in}
+use Rattle.margin_rows.specs.Case.{Case, row_at, rows_in}
 use Rattle.margin_rows.specs.FirstBox.{IsInFirstBox}
 use Rattle.margin_rows.specs.Least.{IsStrictLeast}
-use Rattle.margin_rows.specs.Margin.{time_of}
 use Rattle.margin_rows.specs.Price.{cost_of}
 use Rattle.margin_rows.proofs.Boxed.{allowed_in_first_box, row_near, set_terms, strict_allowed}
 use Rattle.margin_rows.proofs.Costs.{costs_at_most}
@@ -35,7 +32,6 @@ use Rattle.margin_rows.proofs.Listed.{at_number}
 use Rattle.margin_rows.proofs.SmallSums.{cost_small}
 use Rattle.margin_rows.proofs.Spanned.{first_box_fits}
 use Rattle.coord_text.specs.Claims.{BoundGoesWith, CostGoesWith, IsShort}
-use Rattle.settings_sheet.specs.SheetData.{IsSheet}
 
 -- ---- an outcome
 

@@ -7,6 +7,7 @@ use Rattle.coord_io.specs.Goes.{Stays}
 use Rattle.coord_model.specs.StudyData.{StudyData}
 use Rattle.coord_model.specs.declared.study.Current.{Current}
 use Rattle.coord_run.specs.Causes.{FileCause, InputsCause, IsAbsent, IsTableRefusal, NetworkCause, TableCause, network_refusal}
+use Rattle.coord_run.specs.FileLimits.{most_bytes_of}
 use Rattle.coord_run.specs.Inputs.{AreInputs, HasTableFault, Holds, IsNetwork, IsTable, most_bytes}
 use Rattle.coord_io.specs.Outside.{Changes, FolderState, IsMissing, IsReadAlone, Told}
 use Rattle.coord_run.specs.Stops.{StopsFor}
@@ -64,7 +65,7 @@ pub file_last : (before between after : FolderState) (name : List ℕ) (of_file 
 file_last before between after name of_file refusal first (inl missing) = inl (missing.0, absent_last before between after name first missing.1)
 file_last before between after name of_file refusal first (inr (inl failed)) = inr (inl (failed.0, rose_last before.reads between.reads after.reads first.reads failed.1))
 file_last before between after name of_file refusal first (inr (inr long)) =
-    inr (inr (long.0, told_last before between after (λ m. IsLonger m name most_bytes) first.stay long.1))
+    inr (inr (long.0, told_last before between after (λ m. IsLonger m name (most_bytes_of of_file)) first.stay long.1))
 
 -- a stop for one cause is a stop for a wider one
 pub stops_as : (stop : Stop) (P Q : Refusal → Type 0) → ((refusal : Refusal) → P refusal → Q refusal) → StopsFor stop P → StopsFor stop Q

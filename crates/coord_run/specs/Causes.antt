@@ -6,7 +6,8 @@ use Rattle.coord_io.specs.Files.{IsLonger, held}
 use Rattle.coord_io.specs.Outside.{FolderState, Told}
 use Rattle.coord_model.specs.StudyData.{StudyData}
 use Rattle.coord_model.specs.declared.kinds.What.TheVariants as what
-use Rattle.coord_run.specs.Inputs.{HasNetworkFault, HasTableFault, IsNetwork, ReadsAs, most_bytes}
+use Rattle.coord_run.specs.FileLimits.{most_bytes_of}
+use Rattle.coord_run.specs.Inputs.{HasNetworkFault, HasTableFault, IsNetwork, ReadsAs}
 use Rattle.coord_run.specs.declared.refusal.File.{File}
 use Rattle.coord_run.specs.declared.refusal.File.TheVariants as file
 use Rattle.coord_run.specs.declared.refusal.Refusal.{Refusal}
@@ -27,7 +28,7 @@ abbrev pub FileCause : FolderState → FolderState → List ℕ → File → Ref
 FileCause before after name of_file refusal =
     ((refusal ≡ Missing of_file) × IsAbsent before after name)
     ⊎ (((refusal ≡ ReadFault of_file) × Rose before.reads after.reads)
-    ⊎ ((refusal ≡ TooLong of_file) × Told before after (λ m. IsLonger m name most_bytes)))
+    ⊎ ((refusal ≡ TooLong of_file) × Told before after (λ m. IsLonger m name (most_bytes_of of_file))))
 
 -- how a fault of the network file is refused; want of memory is none
 abbrev pub network_refusal : NetFault → Option Refusal

@@ -1,7 +1,11 @@
 pub mod Asserted
 pub mod Causes
+pub mod CertRefusals
 pub mod Certified
+pub mod Check
+pub mod Drill
 pub mod End
+pub mod FileLimits
 pub mod Handing
 pub mod Headline
 pub mod Inputs

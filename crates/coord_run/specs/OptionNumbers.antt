@@ -1,5 +1,5 @@
--- The numbers of the options of `solve` (ours).
-use Rattle.std.specs.Prelude.{ℕ, ◌≤◌, ◌&&◌, nat_le, Option, Some, None, option_map, List, if◌then◌else◌}
+-- The numbers among the words (ours): those of the options of `solve`, and that of `drill`.
+use Rattle.std.specs.Prelude.{ℕ, ◌≤◌, ◌&&◌, nat_le, Option, Some, None, option_and_then, option_map, List, if◌then◌else◌}
 use Rattle.std.specs.Fmt.{decimal}
 use Rattle.std.specs.Str.{bytes_eq}
 use Rattle.std.specs.Str.Parse.{digits_value}
@@ -36,3 +36,11 @@ IsGap n = (1 ≤ n) × (n ≤ most_gap)
 -- the number is a budget that may be given
 abbrev pub IsBudget : ℕ → Type 0
 IsBudget n = (1 ≤ n) × (n ≤ most_budget)
+
+-- the number is one of buses that a ring may have: 3 to 48
+abbrev pub IsRing : ℕ → Type 0
+IsRing n = (3 ≤ n) × (n ≤ 48)
+
+-- the number of buses that the word spells
+abbrev pub ring_of : List ℕ → Option ℕ
+ring_of word = option_and_then (λ n. if nat_le 3 n then Some n else None) (number_up_to 48 word)

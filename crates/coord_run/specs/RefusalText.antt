@@ -5,13 +5,14 @@ use Rattle.coord_model.specs.declared.kinds.Key.{Key}
 use Rattle.coord_model.specs.declared.kinds.NetKind.{NetKind}
 use Rattle.coord_model.specs.declared.kinds.TableName.{TableName}
 use Rattle.coord_model.specs.declared.kinds.What.{What}
-use Rattle.coord_run.specs.Inputs.{most_bytes}
+use Rattle.coord_run.specs.CertRefusals.{cert_claim_text, cert_line_text, cert_node_text}
+use Rattle.coord_run.specs.FileLimits.{most_bytes_of}
 use Rattle.coord_run.specs.RefusalWords.{due_word, kind_word, table_word, what_word, key_text}
 use Rattle.coord_run.specs.SolveWords.{FileNames}
 use Rattle.coord_run.specs.declared.refusal.File.{File}
 use Rattle.coord_run.specs.declared.refusal.File.TheVariants as file
 use Rattle.coord_run.specs.declared.refusal.Refusal.{Refusal}
-use Rattle.coord_run.specs.declared.refusal.Refusal.TheVariants.{Missing, ReadFault, TooLong, NotText, NotToml, Network, TooMany, BadHeader, BadRecord, UnknownFault, UnknownRelay, BadAmps, DoubleEntry, NoPrimary, GapTooSmall, SheetLine, SheetPickup}
+use Rattle.coord_run.specs.declared.refusal.Refusal.TheVariants.{Missing, ReadFault, TooLong, NotText, NotToml, Network, TooMany, BadHeader, BadRecord, UnknownFault, UnknownRelay, BadAmps, DoubleEntry, NoPrimary, GapTooSmall, CertLine, CertNode, CertClaim, SheetLine, SheetPickup}
 use Rattle.settings_sheet.specs.declared.refusal.SheetKind.{SheetKind}
 
 -- the name of a file of a command
@@ -19,14 +20,15 @@ abbrev pub name_of : FileNames → File → List ℕ
 name_of names file.Network = names.network
 name_of names file.Currents = names.currents
 name_of names file.Sheet = names.sheet
+name_of names file.Cert = names.cert
 
 -- a line about a file or another name
 unfoldable pub name_text : List ℕ → List ℕ → List ℕ
 name_text label name = label ++ name ++ codes "\n"
 
--- a file that is too long
-unfoldable pub too_long_text : List ℕ → List ℕ
-too_long_text name = codes "too long: " ++ name ++ codes " " ++ decimal most_bytes ++ codes "\n"
+-- a file with more bytes than this
+unfoldable pub too_long_text : List ℕ → ℕ → List ℕ
+too_long_text name limit = codes "too long: " ++ name ++ codes " " ++ decimal limit ++ codes "\n"
 
 -- a quantity that passes its limit
 unfoldable pub too_many_text : What → ℕ → List ℕ
@@ -53,7 +55,7 @@ sheet_line_text line kind = codes "sheet: line " ++ decimal line ++ codes " " ++
 abbrev pub refusal_text : FileNames → Refusal → List ℕ
 refusal_text names (Missing of_file) = name_text (codes "missing: ") (name_of names of_file)
 refusal_text names (ReadFault of_file) = name_text (codes "read fault: ") (name_of names of_file)
-refusal_text names (TooLong of_file) = too_long_text (name_of names of_file)
+refusal_text names (TooLong of_file) = too_long_text (name_of names of_file) (most_bytes_of of_file)
 refusal_text names NotText = codes "network: not-text\n"
 refusal_text names NotToml = codes "network: not-toml\n"
 refusal_text names (Network kind in_table index key) = place_text kind in_table index key
@@ -66,6 +68,9 @@ refusal_text names (BadAmps n) = record_text (codes "bad-amps") n
 refusal_text names (DoubleEntry n) = record_text (codes "double-entry") n
 refusal_text names (NoPrimary name) = name_text (codes "currents: no-primary ") name
 refusal_text names (GapTooSmall given least) = gap_text given least
+refusal_text names (CertLine line kind) = cert_line_text line kind
+refusal_text names (CertNode number kind) = cert_node_text number kind
+refusal_text names (CertClaim fault) = cert_claim_text fault
 refusal_text names (SheetLine line kind) = sheet_line_text line kind
 refusal_text names (SheetPickup name) = name_text (codes "sheet: pickup ") name
 

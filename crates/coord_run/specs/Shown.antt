@@ -1,5 +1,5 @@
 -- What an outcome must be to be printed and written (ours).
-use Rattle.std.specs.Prelude.{ℕ, ◌<◌, length, IfSome}
+use Rattle.std.specs.Prelude.{◌<◌, length, IfSome}
 use Rattle.branch_bound.specs.declared.outcome.Outcome.{Outcome}
 use Rattle.coord_model.specs.Choice.{choice_data}
 use Rattle.coord_run.specs.Report.{sheet_of}

@@ -52,7 +52,7 @@ pub record ComesTo (case : Case) (asked : SolveWords) (outcome : Outcome) : Type
 abbrev pub output_of : SolveWords → Case → Outcome → OutputData
 output_of asked case outcome = record {
   files =
-      (record { name = asked.cert; text = cert_text (cert_of case outcome) })
+      (record { name = asked.names.cert; text = cert_text (cert_of case outcome) })
       ∷ (record { name = asked.names.sheet; text = sheet_text case.study (sheet_of outcome) }) ∷ [];
   report = report_text case outcome;
   status = outcome_status outcome;

@@ -6,23 +6,22 @@ use Rattle.coord_run.specs.OptionNumbers.{IsBudget, IsGap, budget_of, gap_of}
 use Rattle.coord_run.specs.SaidUses.{uses_of}
 use Rattle.coord_run.specs.Uses.{Use, names_in, word_of}
 
--- the network, the currents table and the sheet that a command names
+-- the network, the currents table, the sheet and the certificate that a command names
 pub record FileNames : Type 0 where
   pub network : List ℕ
   pub currents : List ℕ
   pub sheet : List ℕ
+  pub cert : List ℕ
 
 -- what `solve` is asked: its four names, the gap if one is given, and the budget
 pub record SolveWords : Type 0 where
   pub names : FileNames
-  pub cert : List ℕ
   pub gap : Option ℕ
   pub budget : ℕ
 
 -- its names, and the words of its options, before they are read as numbers
 pub record SolveTexts : Type 0 where
   pub names : FileNames
-  pub cert : List ℕ
   pub gap : Option (List ℕ)
   pub budget : Option (List ℕ)
 
@@ -30,43 +29,41 @@ pub record SolveTexts : Type 0 where
 abbrev pub solve_options : List (List ℕ)
 solve_options = codes "gap" ∷ codes "budget" ∷ []
 
--- four names, of which the last is the certificate's
-unfoldable pub four_names : List (List ℕ) → Option (FileNames × List ℕ)
+-- the names of four files, in order
+unfoldable pub four_names : List (List ℕ) → Option FileNames
 four_names (network ∷ currents ∷ sheet ∷ cert ∷ []) =
-    Some (record { network = network; currents = currents; sheet = sheet }, cert)
+    Some (record { network = network; currents = currents; sheet = sheet; cert = cert })
 four_names names = None
 
 -- the uses as the words of `solve`, if four names are among them
 abbrev pub solve_texts : List Use → Option SolveTexts
 solve_texts uses = option_map (λ names. record {
-  names = names.0;
-  cert = names.1;
+  names = names;
   gap = word_of (codes "gap") uses;
   budget = word_of (codes "budget") uses;
 }) (four_names (names_in uses))
 
 -- no two of the names are equal
-abbrev pub all_differ : FileNames → List ℕ → Bool
-all_differ names cert =
+abbrev pub all_differ : FileNames → Bool
+all_differ names =
     differ names.network names.currents && differ names.network names.sheet && differ names.currents names.sheet
-    && differ names.network cert && differ names.currents cert && differ names.sheet cert
+    && differ names.network names.cert && differ names.currents names.cert && differ names.sheet names.cert
   where
     differ : List ℕ → List ℕ → Bool
     differ a b = not (bytes_eq a b)
 
 -- what `solve` may be asked: names of which no two are equal, and numbers within their limits
 pub record IsAsked (words : SolveWords) : Type 0 where
-  pub names : all_differ words.names words.cert ≡ true
+  pub names : all_differ words.names ≡ true
   pub gap : IfSome words.gap IsGap
   pub budget : IsBudget words.budget
 
 -- what `solve` is asked by these words, if its names differ and its numbers are within their limits
 abbrev pub solve_of : SolveTexts → Option SolveWords
 solve_of texts =
-    if all_differ texts.names texts.cert
+    if all_differ texts.names
     then option_and_then (λ gap. option_map (λ budget. record {
       names = texts.names;
-      cert = texts.cert;
       gap = gap;
       budget = budget;
     }) (budget_of texts.budget)) (gap_of texts.gap)

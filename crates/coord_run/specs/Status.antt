@@ -5,7 +5,7 @@ use Rattle.branch_bound.specs.declared.outcome.Outcome.{Outcome}
 use Rattle.coord_model.specs.declared.choice.Ending.{Ending}
 use Rattle.coord_model.specs.declared.choice.Ending.TheVariants.{BudgetSpent, Closed, Hairline, NoSettings}
 use Rattle.coord_run.specs.declared.refusal.Refusal.{Refusal}
-use Rattle.coord_run.specs.declared.refusal.Refusal.TheVariants.{Missing, ReadFault, TooLong, NotText, NotToml, Network, TooMany, BadHeader, BadRecord, UnknownFault, UnknownRelay, BadAmps, DoubleEntry, NoPrimary, GapTooSmall, SheetLine, SheetPickup}
+use Rattle.coord_run.specs.declared.refusal.Refusal.TheVariants.{Missing, ReadFault, TooLong, NotText, NotToml, Network, TooMany, BadHeader, BadRecord, UnknownFault, UnknownRelay, BadAmps, DoubleEntry, NoPrimary, GapTooSmall, CertLine, CertNode, CertClaim, SheetLine, SheetPickup}
 
 -- the status of a refusal
 abbrev pub refusal_status : Refusal → ℕ
@@ -24,6 +24,9 @@ refusal_status (DoubleEntry n) = 14
 refusal_status (NoPrimary name) = 14
 refusal_status (TooMany what limit) = 15
 refusal_status (GapTooSmall given least) = 16
+refusal_status (CertLine line kind) = 17
+refusal_status (CertNode number kind) = 18
+refusal_status (CertClaim fault) = 19
 refusal_status (SheetLine line kind) = 20
 refusal_status (SheetPickup name) = 22
 

@@ -2,6 +2,7 @@
 use Rattle.std.specs.Prelude.{ℕ, Option, Some, None, option_and_then, option_map, List, [], ◌∷◌, codes}
 use Rattle.std.specs.Prelude.{if◌then◌else◌}
 use Rattle.std.specs.Str.{bytes_eq}
+use Rattle.coord_run.specs.OptionNumbers.{IsRing, ring_of}
 use Rattle.coord_run.specs.SolveWords.{FileNames, IsAsked, SolveWords, solve_words}
 use Rattle.coord_run.specs.SaidUses.{uses_of}
 use Rattle.coord_run.specs.Uses.{names_in}
@@ -11,15 +12,22 @@ pub data Command : Type 0 where
   solve : SolveWords → Command
   pairs : List ℕ → Command
   margins : FileNames → Command
+  check : FileNames → Command
+  drill : ℕ → Command
 
--- what a command may ask: names and numbers that `solve` allows, and any names else
+-- what a command may ask: names and numbers that `solve` allows, buses that `drill` allows, and any names else
 abbrev pub MayAsk : Command → Type 0
 MayAsk (solve words) = IsAsked words
+MayAsk (drill n) = IsRing n
 MayAsk other = Unit {0}
 
 -- the names of a command that names the network alone: it asks for no other file
 abbrev pub only : List ℕ → FileNames
-only network = record { network = network; currents = network; sheet = network }
+only network = record { network = network; currents = network; sheet = network; cert = network }
+
+-- the names of a command that names three files: it asks for the third alone of a sheet and a certificate
+abbrev pub three_files : List ℕ → List ℕ → List ℕ → FileNames
+three_files network currents third = record { network = network; currents = currents; sheet = third; cert = third }
 
 -- the name, if there is one alone
 unfoldable pub one_name : List (List ℕ) → Option (List ℕ)
@@ -31,9 +39,16 @@ unfoldable pub three_names : List (List ℕ) → Option (List ℕ × List ℕ ×
 three_names (first ∷ second ∷ third ∷ []) = Some (first, second, third)
 three_names names = None
 
--- `margins` takes three names
+-- `margins` and `check` take three names
 abbrev pub margins_of : List ℕ × List ℕ × List ℕ → Command
-margins_of names = margins (record { network = names.0; currents = names.1; sheet = names.2 })
+margins_of names = margins (three_files names.0 names.1 names.2)
+
+abbrev pub check_of : List ℕ × List ℕ × List ℕ → Command
+check_of names = check (three_files names.0 names.1 names.2)
+
+-- `drill` takes a number of buses
+abbrev pub drill_of : List ℕ → Option Command
+drill_of word = option_map drill (ring_of word)
 
 -- what words without options are read as, by their names
 abbrev pub from_names : {X : Type 0} → (List (List ℕ) → Option X) → List (List ℕ) → Option X
@@ -45,6 +60,8 @@ command_with word words =
     if bytes_eq word (codes "solve") then option_map solve (solve_words words)
     else if bytes_eq word (codes "pairs") then option_map pairs (from_names one_name words)
     else if bytes_eq word (codes "margins") then option_map margins_of (from_names three_names words)
+    else if bytes_eq word (codes "check") then option_map check_of (from_names three_names words)
+    else if bytes_eq word (codes "drill") then option_and_then drill_of (from_names one_name words)
     else None
 
 -- the command that the words are, if they are one

@@ -4,6 +4,7 @@ ghost use Rattle.coord_io.specs.Files.{held};
 ghost use Rattle.coord_model.specs.Limits.{FitsCurrents, FitsStudy};
 ghost use Rattle.coord_model.specs.StudyData.{entries_of, study_data};
 ghost use Rattle.coord_run.specs.Causes.{CaseCause, FileCause, InputsCause, IsTableRefusal, NetworkCause, TableCause, network_refusal};
+ghost use Rattle.coord_run.specs.FileLimits.{most_bytes_of};
 ghost use Rattle.coord_run.specs.Inputs.{AreInputs, IsNetwork, IsTable};
 ghost use Rattle.coord_io.specs.Outside.{IsReadAlone, Told};
 ghost use Rattle.coord_run.specs.Stops.{StopsFor};
@@ -17,8 +18,20 @@ use margin_rows::{BuildFault, Instance, build};
 use network_file::{NetFault, read_network};
 use std::alloc::Global;
 
-/// The most bytes of a file that is read.
-pub const MOST_BYTES: u64 = 4_194_304;
+/// The most bytes of a certificate, and of any other file that is read.
+const MOST_BYTES_OF_CERT: u64 = 536_870_912;
+
+const MOST_BYTES: u64 = 4_194_304;
+
+/// The most bytes of a file.
+pub fn most_bytes(file: File) -> u64
+    ensures { result ≡ most_bytes_of file }
+{
+    match file {
+        File::Network | File::Currents | File::Sheet => MOST_BYTES,
+        File::Cert => MOST_BYTES_OF_CERT,
+    }
+}
 
 /// The instance of the study and its currents, read from their files.
 pub fn read_case<F: Folder>(
@@ -146,19 +159,19 @@ fn table_stop(study: &Study, fault: TableFault) -> Stop
     }
 }
 
-/// The bytes of a file, at most 4 MiB.
+/// The bytes of a file, at most as many as it may have.
 pub fn read_file<F: Folder>(
     alloc: Global,
     folder: &mut F,
     name: &str,
     file: File,
 ) -> Result<Vec<u8>, Stop>
-    ensures within { IfOk result (λ bytes. length bytes.items ≤ MOST_BYTES) }
+    ensures within { IfOk result (λ bytes. length bytes.items ≤ most_bytes_of file) }
     ensures read { IfOk result (λ bytes. Told (F.state folder.old) (F.state folder.new) (λ m. held m name.now ≡ Some bytes.items)) }
     ensures stopped { IfErr result (λ stop. StopsFor stop (FileCause (F.state folder.old) (F.state folder.new) name.now file)) }
     ensures alone { IsReadAlone (F.state folder.old) (F.state folder.new) }
 {
-    match read_whole(alloc, folder, name, MOST_BYTES) {
+    match read_whole(alloc, folder, name, most_bytes(file)) {
         Ok(bytes) => Ok(bytes),
         Err(ReadRefusal::Missing) => Err(Stop::Refused(Refusal::Missing(file))),
         Err(ReadRefusal::Failed) => Err(Stop::Refused(Refusal::ReadFault(file))),

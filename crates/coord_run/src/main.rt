@@ -5,6 +5,10 @@
 //! settings sheet.
 #![tactic(auto)]
 
+mod cert_refusal_line;
+mod check;
+mod claim_fault;
+mod drill;
 mod end;
 mod inputs;
 mod margins;

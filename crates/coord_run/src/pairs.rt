@@ -37,6 +37,7 @@ fn only<'a>(network: &'a str) -> Names<'a>
         network,
         currents: network,
         sheet: network,
+        cert: network,
     }
 }
 

@@ -5,8 +5,10 @@ ghost use Rattle.coord_run.specs.Names.{command_data, names_data};
 ghost use Rattle.coord_run.specs.Headline.{Headline};
 ghost use Rattle.coord_run.specs.Printing.{Prints};
 ghost use Rattle.coord_run.specs.Program.{Does, usage_text};
-ghost use Rattle.coord_run.specs.Words.{MayAsk, command_of, solve};
+ghost use Rattle.coord_run.specs.Words.{MayAsk, command_of, solve, three_files};
 
+use crate::check::check;
+use crate::drill::drill;
 use crate::margins::margins;
 use crate::pairs::pairs;
 use crate::printing::print;
@@ -19,13 +21,15 @@ use std::alloc::Global;
 
 /// The line for words that fit no command.
 const USAGE_LINE: &[u8] =
-    b"usage: coord solve NETWORK CURRENTS SHEET CERT [--gap N] [--budget N], pairs NETWORK, margins NETWORK CURRENTS SHEET\n";
+    b"usage: coord solve NETWORK CURRENTS SHEET CERT [--gap N] [--budget N], check NETWORK CURRENTS CERT, pairs NETWORK, margins NETWORK CURRENTS SHEET, drill N\n";
 
 /// Does what the words after the program's name ask for, and answers the status.
 ///
 /// `solve NETWORK CURRENTS SHEET CERT` reads the network and the table of its fault currents, and writes the certificate
 /// and then the settings sheet. Its ending or its refusal is printed on the sink. `pairs NETWORK` reads the network and
 /// prints its pairs. `margins NETWORK CURRENTS SHEET` reads the three files and prints each row with its margins.
+/// `check NETWORK CURRENTS CERT` reads the three files and prints the claim of the certificate, if all of it is right.
+/// `drill N` searches a ring of that many buses, without files.
 pub fn run<F: Folder, K: Sink>(alloc: Global, words: &[String], folder: &mut F, out: &mut K) -> u8
     ensures does { Does (command_of (map string_bytes words.now)) (F.state folder.old) (F.state folder.new) (K.state out.old) (K.state out.new) result }
     ensures headline { (asked : SolveWords) → command_of (map string_bytes words.now) ≡ Some (solve asked) →
@@ -89,17 +93,24 @@ fn carry_out<F: Folder, K: Sink>(
             network,
             currents,
             sheet,
-        } => { margins(alloc, folder, out, &names(network, currents, sheet)) }
+        } => { margins(alloc, folder, out, &three_files(network, currents, sheet)) }
+        Command::Check {
+            network,
+            currents,
+            cert,
+        } => { check(alloc, folder, out, &three_files(network, currents, cert)) }
+        Command::Drill { n } => drill(alloc, out, *n),
     }
 }
 
-/// The names of three files.
-fn names<'a>(network: &'a str, currents: &'a str, sheet: &'a str) -> Names<'a>
-    ensures { names_data result ≡ record { network = network.entry.now; currents = currents.entry.now; sheet = sheet.entry.now } }
+/// The names of a command that names three files: of a sheet and a certificate it asks for one.
+fn three_files<'a>(network: &'a str, currents: &'a str, third: &'a str) -> Names<'a>
+    ensures { names_data result ≡ three_files network.entry.now currents.entry.now third.entry.now }
 {
     Names {
         network,
         currents,
-        sheet,
+        sheet: third,
+        cert: third,
     }
 }

@@ -1,4 +1,7 @@
 //! All that the program may refuse.
+use crate::claim_fault::ClaimFault;
+use cert_text::CertKind;
+use cert_tree::NodeKind;
 use coord_model::{Key, Name, NetKind, NoMemory, TableName, What};
 use settings_sheet::SheetKind;
 
@@ -8,6 +11,7 @@ pub enum File {
     Network,
     Currents,
     Sheet,
+    Cert,
 }
 
 /// Why a command ends before its work is done.
@@ -17,7 +21,7 @@ pub enum Refusal {
     Missing(File),
     /// The folder failed while the file was read.
     ReadFault(File),
-    /// The file has more than 4 MiB.
+    /// The file has more bytes than may be read: 512 MiB of a certificate, 4 MiB of any other.
     TooLong(File),
     /// The network file isn't UTF-8.
     NotText,
@@ -64,6 +68,18 @@ pub enum Refusal {
         given: u64,
         least: u64,
     },
+    /// The lines before this one begin a certificate, and with it they begin none.
+    CertLine {
+        line: u32,
+        kind: CertKind,
+    },
+    /// This node of the certificate's tree, counted from 1 in pre-order, is the first that is wrong, and in this way.
+    CertNode {
+        number: u32,
+        kind: NodeKind,
+    },
+    /// This is wrong with the certificate's claim first.
+    CertClaim(ClaimFault),
     /// The lines before this one begin a sheet of the study, and with it they begin none.
     SheetLine {
         line: u32,

@@ -1,11 +1,13 @@
 //! The line in which a refusal is printed.
 ghost use Rattle.std.specs.Prelude.{◌≡◌, ◌++◌, IfOk, OnOk};
 ghost use Rattle.std.specs.Fmt.{decimal};
+ghost use Rattle.coord_run.specs.FileLimits.{most_bytes_of};
 ghost use Rattle.coord_run.specs.Names.{names_data};
 ghost use Rattle.coord_run.specs.RefusalText.{gap_text, name_of, name_text, place_text, record_text, refusal_text, sheet_line_text, too_long_text, too_many_text};
 ghost use Rattle.coord_run.specs.RefusalWords.{key_text};
 
-use crate::inputs::MOST_BYTES;
+use crate::cert_refusal_line::{cert_claim, cert_line, cert_node};
+use crate::inputs::most_bytes;
 use crate::refusal::{File, Refusal};
 use crate::refusal_words::{due_word, kind_word, table_word, what_word};
 use crate::words::Names;
@@ -44,6 +46,9 @@ pub fn refusal_line(
         Refusal::DoubleEntry { n } => record_line(alloc, b"double-entry", *n),
         Refusal::NoPrimary(name) => name_line(alloc, b"currents: no-primary ", name.bytes()),
         Refusal::GapTooSmall { given, least } => gap_line(alloc, *given, *least),
+        Refusal::CertLine { line, kind } => cert_line(alloc, *line, *kind),
+        Refusal::CertNode { number, kind } => cert_node(alloc, *number, *kind),
+        Refusal::CertClaim(fault) => cert_claim(alloc, fault),
         Refusal::SheetLine { line, kind } => sheet_line(alloc, *line, *kind),
         Refusal::SheetPickup(name) => name_line(alloc, b"sheet: pickup ", name.bytes()),
     }
@@ -57,6 +62,7 @@ fn name_of<'a>(names: &Names<'a>, file: File) -> &'a str
         File::Network => names.network,
         File::Currents => names.currents,
         File::Sheet => names.sheet,
+        File::Cert => names.cert,
     }
 }
 
@@ -86,12 +92,12 @@ pub fn name_line(alloc: Global, label: &[u8], name: &[u8]) -> Result<Vec<u8>, No
 /// The line of a file that is too long.
 #[tactic(auto, unfolding(crate::specs::RefusalText::too_long_text))]
 fn too_long_line(alloc: Global, names: &Names<'_>, file: File) -> Result<Vec<u8>, NoMemory>
-    ensures { IfOk result (λ line. line.items ≡ too_long_text (name_of (names_data names.now) file)) }
+    ensures { IfOk result (λ line. line.items ≡ too_long_text (name_of (names_data names.now) file) (most_bytes_of file)) }
 {
     let mut line = Vec::from_slice(alloc, b"too long: ")?;
     line.extend_from_slice(name_of(names, file).as_bytes())?;
     line.extend_from_slice(b" ")?;
-    push_number(&mut line, MOST_BYTES)?;
+    push_number(&mut line, most_bytes(file))?;
     line.extend_from_slice(b"\n")?;
     Ok(line)
 }

@@ -38,7 +38,7 @@ pub fn push_row(
 
 /// Adds the names of a row: its kind, its fault, and its relays.
 #[tactic(auto, unfolding(crate::specs::RowLine::row_names))]
-fn push_names(
+pub fn push_names(
     out: &mut Vec<u8>,
     kind: RowKind,
     fault: &[u8],
@@ -65,7 +65,7 @@ fn push_names(
 }
 
 /// Adds a word and a name after it.
-fn push_words(out: &mut Vec<u8>, word: &[u8], name: &[u8]) -> Result<(), NoMemory>
+pub fn push_words(out: &mut Vec<u8>, word: &[u8], name: &[u8]) -> Result<(), NoMemory>
     ensures { OnOk result (out.new.items ≡ out.old.items ++ word.now ++ name.now) }
 {
     out.extend_from_slice(word)?;

@@ -38,7 +38,6 @@ const DEFAULT_GAP: u64 = 1_000;
 #[derive(Clone, Copy)]
 pub struct Asked<'a> {
     pub names: Names<'a>,
-    pub cert: &'a str,
     pub gap: Option<u64>,
     pub budget: u32,
 }
@@ -60,23 +59,19 @@ pub fn solve_with<F: Folder, K: Sink, A: Adviser>(
     budget: u32,
     adviser: &mut A,
 ) -> u8
-    requires { IsAsked (record { names = record { network = network.now; currents = currents.now; sheet = sheet.now }; cert = cert.now; gap = gap; budget = budget }) }
-    ensures solves { Solves (record { names = record { network = network.now; currents = currents.now; sheet = sheet.now }; cert = cert.now; gap = gap; budget = budget })
+    requires { IsAsked (record { names = record { network = network.now; currents = currents.now; sheet = sheet.now; cert = cert.now }; gap = gap; budget = budget }) }
+    ensures solves { Solves (record { names = record { network = network.now; currents = currents.now; sheet = sheet.now; cert = cert.now }; gap = gap; budget = budget })
         (F.state folder.old) (F.state folder.new) (K.state out.old) (K.state out.new) result }
-    ensures headline { Headline (record { names = record { network = network.now; currents = currents.now; sheet = sheet.now }; cert = cert.now; gap = gap; budget = budget })
+    ensures headline { Headline (record { names = record { network = network.now; currents = currents.now; sheet = sheet.now; cert = cert.now }; gap = gap; budget = budget })
         (F.state folder.old) (F.state folder.new) (K.state out.old) (K.state out.new) result }
 {
     let names = Names {
         network,
         currents,
         sheet,
-    };
-    let asked = Asked {
-        names,
         cert,
-        gap,
-        budget,
     };
+    let asked = Asked { names, gap, budget };
     solve(alloc, folder, out, &asked, adviser)
 }
 
@@ -183,7 +178,7 @@ fn files<'a>(
     ensures texts { IfOk result (λ files. both_texts files ≡ (output_of (asked_data asked.now) inst.now outcome).files) }
     ensures writable { IfOk result AreWritable }
 {
-    let cert_line = name_line(alloc, b"write fault: ", asked.cert.as_bytes())?;
+    let cert_line = name_line(alloc, b"write fault: ", asked.names.cert.as_bytes())?;
     let sheet_line = name_line(alloc, b"write fault: ", asked.names.sheet.as_bytes())?;
     let sheet = Sheet {
         ending: outcome.ending,
@@ -205,7 +200,7 @@ fn files<'a>(
     };
     Ok(NewFiles {
         cert: NewCert {
-            name: asked.cert,
+            name: asked.names.cert,
             cert,
             fault_line: cert_line,
         },

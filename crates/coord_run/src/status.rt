@@ -33,6 +33,9 @@ pub fn refusal_status(refusal: &Refusal) -> u8
         | Refusal::NoPrimary(_) => 14,
         Refusal::TooMany { .. } => 15,
         Refusal::GapTooSmall { .. } => 16,
+        Refusal::CertLine { .. } => 17,
+        Refusal::CertNode { .. } => 18,
+        Refusal::CertClaim(_) => 19,
         Refusal::SheetLine { .. } => 20,
         Refusal::SheetPickup(_) => 22,
     }

@@ -1,16 +1,20 @@
 //! What no clause says: that calls succeed, the values of whole studies, and which planned failure is met. The settings,
 //! costs and margins were worked out by hand.
+mod advised;
+mod checks;
+mod drills;
 mod endings;
 mod formats;
 mod limits;
 mod listing;
 mod margins;
+mod quiet;
 mod refusals;
 mod searches;
 mod words;
 
 use crate::program::run;
-use coord_io::{CallKind, Fail, MemFile, MemFolder, MemSink, names_differ};
+use coord_io::{CallKind, Fail, Folder, MemFile, MemFolder, MemSink, names_differ};
 use coord_model::Name;
 use std::alloc::AllocError;
 use std::process::Abort;
@@ -166,12 +170,7 @@ fn answers(
     after: &[(&str, &str)],
 ) -> Result<(), AllocError> {
     let mut folder = folder_of(rt, files, planned)?;
-    let mut owned = Vec::new(rt.alloc());
-    for word in words {
-        owned.push(String::from_str(rt.alloc(), word)?)?;
-    }
-    let mut out = MemSink::new(rt.alloc(), Vec::new(rt.alloc()));
-    let found = run(rt.alloc(), owned.as_slice(), &mut folder, &mut out);
+    let (found, out) = called(rt, words, &mut folder)?;
     assert!(rt; out.bytes() == text.as_bytes(), "not printed: {text}");
     assert_eq!(rt; found, status, "{text}");
     for (name, bytes) in after {
@@ -181,4 +180,19 @@ fn answers(
         );
     }
     Ok(())
+}
+
+/// The program called with these words over the folder: its status and what is printed.
+fn called<F: Folder>(
+    rt: &(impl AllocGlobal + Abort),
+    words: &[&str],
+    folder: &mut F,
+) -> Result<(u8, MemSink), AllocError> {
+    let mut owned = Vec::new(rt.alloc());
+    for word in words {
+        owned.push(String::from_str(rt.alloc(), word)?)?;
+    }
+    let mut out = MemSink::new(rt.alloc(), Vec::new(rt.alloc()));
+    let status = run(rt.alloc(), owned.as_slice(), folder, &mut out);
+    Ok((status, out))
 }

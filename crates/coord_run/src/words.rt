@@ -1,10 +1,10 @@
 //! The words that the program is called with.
 ghost use Rattle.std.specs.Prelude.{◌≡◌, ◌≤◌, IfOk, IfSome, Some, map, option_and_then, option_map, string_bytes};
 ghost use Rattle.coord_run.specs.Names.{Reads, command_data, names_data, texts_data, three_data, word_data};
-ghost use Rattle.coord_run.specs.OptionNumbers.{IsBudget, IsGap, budget_of, gap_of, number_up_to};
+ghost use Rattle.coord_run.specs.OptionNumbers.{IsBudget, IsGap, IsRing, budget_of, gap_of, number_up_to, ring_of};
 ghost use Rattle.coord_run.specs.SaidUses.{uses_of};
 ghost use Rattle.coord_run.specs.SolveWords.{all_differ, solve_options, solve_texts, solve_words};
-ghost use Rattle.coord_run.specs.Words.{MayAsk, command_of, from_names, margins_of, one_name, pairs};
+ghost use Rattle.coord_run.specs.Words.{MayAsk, check_of, command_of, drill_of, from_names, margins_of, one_name, pairs};
 ghost use Rattle.coord_run.specs.Words.{solve, three_names};
 
 use crate::rules::{name_in, one_name_rules, solve_rules, three_names_rules};
@@ -17,6 +17,12 @@ const MAX_GAP: u64 = 1_000_000_000_000;
 
 /// The greatest budget.
 const MAX_BUDGET: u64 = 200_000;
+
+/// The fewest buses of a ring.
+const MIN_BUSES: u32 = 3;
+
+/// The most buses of a ring.
+const MAX_BUSES: u64 = 48;
 
 /// The budget if none is given.
 const DEFAULT_BUDGET: u32 = 20_000;
@@ -39,6 +45,15 @@ pub enum Command {
         network: String,
         currents: String,
         sheet: String,
+    },
+    Check {
+        network: String,
+        currents: String,
+        cert: String,
+    },
+    /// `n` counts buses.
+    Drill {
+        n: u32,
     },
 }
 
@@ -76,19 +91,19 @@ impl From<clap::Error> for WordsRefusal {
     }
 }
 
-/// The network, the currents table and the sheet that a command names.
+/// The network, the currents table, the sheet and the certificate that a command names.
 #[derive(Clone, Copy)]
 pub struct Names<'a> {
     pub network: &'a str,
     pub currents: &'a str,
     pub sheet: &'a str,
+    pub cert: &'a str,
 }
 
 /// The names of `solve`, and the words of its options.
 #[derive(Clone, Copy)]
 struct SolveTexts<'a> {
     names: Names<'a>,
-    cert: &'a str,
     gap: Option<&'a str>,
     budget: Option<&'a str>,
 }
@@ -109,6 +124,8 @@ pub fn read_words(alloc: Global, words: &[String]) -> Result<Command, WordsRefus
         "solve" => read_solve(alloc, rest),
         "pairs" => read_pairs(alloc, rest),
         "margins" => read_margins(alloc, rest),
+        "check" => read_check(alloc, rest),
+        "drill" => read_drill(alloc, rest),
         _ => Err(WordsRefusal::Usage),
     }
 }
@@ -119,7 +136,7 @@ fn read_solve(alloc: Global, words: &[String]) -> Result<Command, WordsRefusal>
     ensures allowed { IfOk result (λ command. MayAsk (command_data command)) }
 {
     let texts = solve_texts(alloc, words)?;
-    if !all_differ(&texts.names, texts.cert) {
+    if !all_differ(&texts.names) {
         return Err(WordsRefusal::Usage);
     }
     let gap = gap_of(texts.gap).ok_or(WordsRefusal::Usage)?;
@@ -128,22 +145,22 @@ fn read_solve(alloc: Global, words: &[String]) -> Result<Command, WordsRefusal>
         network: String::from_str(alloc, texts.names.network)?,
         currents: String::from_str(alloc, texts.names.currents)?,
         sheet: String::from_str(alloc, texts.names.sheet)?,
-        cert: String::from_str(alloc, texts.cert)?,
+        cert: String::from_str(alloc, texts.names.cert)?,
         gap,
         budget,
     })
 }
 
 /// Whether no two of the names are equal.
-fn all_differ(names: &Names<'_>, cert: &str) -> bool
-    ensures { result ≡ all_differ (names_data names.now) cert.now }
+fn all_differ(names: &Names<'_>) -> bool
+    ensures { result ≡ all_differ (names_data names.now) }
 {
     names.network != names.currents
         && names.network != names.sheet
         && names.currents != names.sheet
-        && names.network != cert
-        && names.currents != cert
-        && names.sheet != cert
+        && names.network != names.cert
+        && names.currents != names.cert
+        && names.sheet != names.cert
 }
 
 /// The gap that the option's word spells, if there is one. `None`: the word is no gap.
@@ -201,6 +218,38 @@ fn read_margins(alloc: Global, words: &[String]) -> Result<Command, WordsRefusal
     })
 }
 
+/// `check NETWORK CURRENTS CERT`.
+fn read_check(alloc: Global, words: &[String]) -> Result<Command, WordsRefusal>
+    ensures exact { Reads command_data (option_map check_of (from_names three_names (map string_bytes words.now))) result }
+    ensures allowed { IfOk result (λ command. MayAsk (command_data command)) }
+{
+    let (network, currents, cert) = three_names(alloc, words)?;
+    Ok(Command::Check {
+        network: String::from_str(alloc, network)?,
+        currents: String::from_str(alloc, currents)?,
+        cert: String::from_str(alloc, cert)?,
+    })
+}
+
+/// `drill N`.
+fn read_drill(alloc: Global, words: &[String]) -> Result<Command, WordsRefusal>
+    ensures exact { Reads command_data (option_and_then drill_of (from_names one_name (map string_bytes words.now))) result }
+    ensures allowed { IfOk result (λ command. MayAsk (command_data command)) }
+{
+    let word = one_name(alloc, words)?;
+    let n = ring_of(word).ok_or(WordsRefusal::Usage)?;
+    Ok(Command::Drill { n })
+}
+
+/// The number of buses that the word spells. `None`: a ring may not have it.
+fn ring_of(word: &str) -> Option<u32>
+    ensures exact { result ≡ ring_of word.now }
+    ensures within { IfSome result IsRing }
+{
+    let n = number_up_to(word, MAX_BUSES)? as u32;
+    if n >= MIN_BUSES { Some(n) } else { None }
+}
+
 /// The names of `solve`, and the words of its options.
 fn solve_texts(alloc: Global, words: &[String]) -> Result<SolveTexts<'_>, WordsRefusal>
     ensures { Reads texts_data (option_and_then solve_texts (uses_of solve_options (map string_bytes words.now)))
@@ -212,8 +261,8 @@ fn solve_texts(alloc: Global, words: &[String]) -> Result<SolveTexts<'_>, WordsR
             network: name_in(&matches, "network"),
             currents: name_in(&matches, "currents"),
             sheet: name_in(&matches, "sheet"),
+            cert: name_in(&matches, "cert"),
         },
-        cert: name_in(&matches, "cert"),
         gap: matches.get_str("gap"),
         budget: matches.get_str("budget"),
     })

@@ -4,7 +4,7 @@ use super::endings::{ALONE, Ending, end, ends};
 use super::*;
 
 /// Dials of both relays from 0.050 to 1.000.
-const DIALS: [(&str, &str); 3] = [
+pub const DIALS: [(&str, &str); 3] = [
     ("dial_first = 250", "dial_first = 50"),
     ("dial_count = 1\n", "dial_count = 20\n"),
     ("dial_count = 1\n", "dial_count = 20\n"),

@@ -12,7 +12,7 @@ struct Refused {
 }
 
 const USAGE: &str =
-    "usage: coord solve NETWORK CURRENTS SHEET CERT [--gap N] [--budget N], pairs NETWORK, margins NETWORK CURRENTS SHEET\n";
+    "usage: coord solve NETWORK CURRENTS SHEET CERT [--gap N] [--budget N], check NETWORK CURRENTS CERT, pairs NETWORK, margins NETWORK CURRENTS SHEET, drill N\n";
 
 const REFUSED: [Refused; 16] = [
     Refused {
@@ -282,30 +282,37 @@ fn a_sink_that_fails_leaves_both_files_whole(rt: HostRuntime) -> Result<(), test
 
 #[test]
 fn files_of_the_disk_are_read_and_written(rt: HostRuntime) -> Result<(), test::Fail> {
-    let alloc = rt.alloc();
-    let mut words = Vec::new(alloc);
-    for word in &[
-        "solve",
-        "coord_run_n",
-        "coord_run_t",
-        "coord_run_s",
-        "coord_run_c",
-    ] {
-        words.push(String::from_str(alloc, word)?)?;
-    }
     for (name, text) in &[("coord_run_n", NETWORK), ("coord_run_t", CURRENTS)] {
         fs::write(&rt, *name, *text)?;
     }
     let mut folder = DiskFolder::new(&rt);
-    let mut out = MemSink::new(alloc, Vec::new(alloc));
-    let status = run(alloc, words.as_slice(), &mut folder, &mut out);
-    let sheet = read_whole(alloc, &mut folder, "coord_run_s", 1_000)?;
-    let cert = read_whole(alloc, &mut folder, "coord_run_c", 1_000)?;
+    let (solved, report) = called(
+        &rt,
+        &[
+            "solve",
+            "coord_run_n",
+            "coord_run_t",
+            "coord_run_s",
+            "coord_run_c",
+        ],
+        &mut folder,
+    )?;
+    let (checked, accepted) = called(
+        &rt,
+        &["check", "coord_run_n", "coord_run_t", "coord_run_c"],
+        &mut folder,
+    )?;
+    let sheet = read_whole(rt.alloc(), &mut folder, "coord_run_s", 1_000)?;
+    let cert = read_whole(rt.alloc(), &mut folder, "coord_run_c", 1_000)?;
     for name in &["coord_run_n", "coord_run_t", "coord_run_s", "coord_run_c"] {
         fs::remove_file(&rt, *name)?;
     }
-    assert_eq!(rt; out.bytes(), REPORT.as_bytes());
-    assert_eq!(rt; status, 0);
+    assert_eq!(rt; report.bytes(), REPORT.as_bytes());
+    assert_eq!(rt;
+        accepted.bytes(),
+        b"accepted closed cost 262500 bound 262500 boxes 1\n".as_slice()
+    );
+    assert_eq!(rt; (solved, checked), (0, 0));
     assert_eq!(rt; sheet.as_slice(), SHEET.as_bytes());
     assert_eq!(rt; cert.as_slice(), CERT.as_bytes());
     Ok(())

@@ -1,7 +1,7 @@
 use super::endings::ALONE;
 use super::*;
 use crate::solve::solve_with;
-use lp_advice::NullAdviser;
+use lp_advice::{Adviser, NullAdviser};
 
 /// Two parallel lines with a relay at one end of each, which back each other.
 const PARALLEL: &str = r#"format = 1
@@ -63,28 +63,27 @@ type Search = (
 fn found(rt: &(impl AllocGlobal + Abort), searches: &[Search]) -> Result<(), AllocError> {
     for ((network, changes), currents, (gap, budget), (status, report)) in searches {
         let network = edited(rt, network, changes)?;
+        let files = (network.as_str(), *currents);
         finds(
             rt,
-            network.as_str(),
-            currents,
+            &mut NullAdviser,
+            files,
             *gap,
             *budget,
-            *status,
-            report,
+            (*status, *report),
         )?;
     }
     Ok(())
 }
 
-/// Asserts that a search ends so.
-fn finds<'x>(
+/// Asserts that a search with this advice ends so: its status, and how its report begins.
+pub fn finds<A: Adviser>(
     rt: &(impl AllocGlobal + Abort),
-    network: &'x str,
-    currents: &'x str,
+    adviser: &mut A,
+    (network, currents): (&str, &str),
     gap: Option<u64>,
     budget: u32,
-    status: u8,
-    report: &str,
+    (status, report): (u8, &str),
 ) -> Result<(), AllocError> {
     let mut folder = folder_of(rt, &[("n", network), ("t", currents)], None)?;
     let mut out = MemSink::new(rt.alloc(), Vec::new(rt.alloc()));
@@ -103,7 +102,7 @@ fn finds<'x>(
         "c",
         gap,
         budget,
-        &mut NullAdviser,
+        adviser,
     );
     assert_eq!(rt; ended, status, "{report}");
     assert!(rt;
@@ -114,7 +113,7 @@ fn finds<'x>(
 }
 
 /// R1 with dials from 0.050 to 1.000 and two plugs.
-const TWO_PLUGS: &[(&str, &str)] = &[
+pub const TWO_PLUGS: &[(&str, &str)] = &[
     (
         "plug_count = 1\ndial_first = 250\ndial_step = 50\ndial_count = 1\n",
         "plug_count = 2\ndial_first = 50\ndial_step = 50\ndial_count = 20\n",
@@ -173,7 +172,7 @@ fn a_search_ends_by_its_pickups_and_its_budget(rt: HostRuntime) -> Result<(), te
 }
 
 /// The interval of 270 ms at 8 times pickup, where the enclosures are 1 ns wide.
-const BY_A_HAIR: &[(&str, &str)] = &[
+pub const BY_A_HAIR: &[(&str, &str)] = &[
     ("cti_ms = 300", "cti_ms = 270"),
     (
         "dial_first = 250\ndial_step = 50\ndial_count = 1\n",

@@ -5,7 +5,7 @@ use std::process::Abort;
 use std::test;
 
 /// The words as texts of their own, read.
-fn read(
+pub fn read(
     rt: &(impl AllocGlobal + Abort),
     words: &[&str],
 ) -> Result<Result<Command, WordsRefusal>, AllocError> {
@@ -47,11 +47,20 @@ fn is(command: &Command, name: &str, files: &[&str], asked: (Option<u64>, u32)) 
             name == "margins"
                 && files == [network.as_str(), currents.as_str(), sheet.as_str()].as_slice()
         }
+        Command::Check {
+            network,
+            currents,
+            cert,
+        } => {
+            name == "check"
+                && files == [network.as_str(), currents.as_str(), cert.as_str()].as_slice()
+        }
+        Command::Drill { .. } => false,
     }
 }
 
 /// Words, the names of files, the gap and the budget of their command.
-const COMMANDS: [(&[&str], &[&str], (Option<u64>, u32)); 10] = [
+const COMMANDS: [(&[&str], &[&str], (Option<u64>, u32)); 12] = [
     (
         &["solve", "n", "t", "s", "c"],
         &["n", "t", "s", "c"],
@@ -100,6 +109,12 @@ const COMMANDS: [(&[&str], &[&str], (Option<u64>, u32)); 10] = [
     (&["pairs", "n"], &["n"], (None, 0)),
     (&["pairs", "--", "-n"], &["-n"], (None, 0)),
     (&["margins", "n", "t", "s"], &["n", "t", "s"], (None, 0)),
+    (&["check", "n", "t", "c"], &["n", "t", "c"], (None, 0)),
+    (
+        &["check", "n", "--", "-t", "n"],
+        &["n", "-t", "n"],
+        (None, 0),
+    ),
 ];
 
 #[test]
@@ -114,7 +129,7 @@ fn words_are_commands(rt: HostRuntime) -> Result<(), test::Fail> {
 }
 
 /// Words that fit no command.
-const USAGE: [&[&str]; 39] = [
+const USAGE: [&[&str]; 42] = [
     &[],
     &["help"],
     &["--help"],
@@ -151,7 +166,10 @@ const USAGE: [&[&str]; 39] = [
     &["solve", "n", "t", "s", "c", "--bud=3"],
     &["solve", "n", "t", "s", "c", "--help"],
     &["solve", "n", "t", "s", "c", "-h"],
-    &["check", "n", "t", "c"],
+    &["check", "n", "t"],
+    &["check", "n", "t", "c", "d"],
+    &["check", "n", "t", "c", "--gap=5"],
+    &["Check", "n", "t", "c"],
     &["pairs", "-n"],
     &["margins", "n", "t", "s", "--budget=3"],
 ];

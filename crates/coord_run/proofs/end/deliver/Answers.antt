@@ -1,7 +1,6 @@
 use Rattle.std.proofs.Common.{refl, subst, List, ℕ}
-use Rattle.coord_run.specs.Handing.{AreWritable, cert_file, file_text}
 use Rattle.coord_run.specs.Printing.{Prints}
-use Rattle.coord_run.proofs.EndLaws.{delivers_fault, delivers_files, delivers_none, delivers_report}
+use Rattle.coord_run.proofs.EndLaws.{delivers_report}
 use Rattle.coord_run.proofs.end.deliver.Goals as goal
 
 pub returns-in_default : goal.returns-in_default

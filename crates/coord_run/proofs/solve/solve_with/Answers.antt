@@ -5,8 +5,7 @@ use Rattle.coord_run.proofs.solve.solve_with.Goals as goal
 pub returns-clause-headline : goal.returns-clause-headline
 returns-clause-headline g c =
     let asked : SolveWords = record {
-      names = record { network = c.args.network.now; currents = c.args.currents.now; sheet = c.args.sheet.now };
-      cert = c.args.cert.now;
+      names = record { network = c.args.network.now; currents = c.args.currents.now; sheet = c.args.sheet.now; cert = c.args.cert.now };
       gap = c.args.gap;
       budget = c.args.budget;
     } in

@@ -1,0 +1,67 @@
+use super::words::read;
+use super::*;
+use crate::words::{Command, WordsRefusal};
+
+/// Words after `drill` that are no ring.
+const OTHERS: [&[&str]; 7] = [
+    &["drill"],
+    &["drill", "2"],
+    &["drill", "49"],
+    &["drill", "03"],
+    &["drill", "x"],
+    &["drill", "-5"],
+    &["drill", "3", "4"],
+];
+
+/// Words that are a ring, and its buses.
+const RINGS: [(&[&str], u32); 3] = [
+    (&["drill", "3"], 3),
+    (&["drill", "48"], 48),
+    (&["drill", "--", "5"], 5),
+];
+
+#[test]
+fn a_ring_has_three_to_forty_eight_buses(rt: HostRuntime) -> Result<(), test::Fail> {
+    for words in &OTHERS {
+        let Err(WordsRefusal::Usage) = read(&rt, words)? else {
+            panic!(rt; "not usage");
+        };
+    }
+    for (words, buses) in &RINGS {
+        let Ok(Command::Drill { n }) = read(&rt, words)? else {
+            panic!(rt; "no ring");
+        };
+        assert_eq!(rt; n, *buses);
+    }
+    Ok(())
+}
+
+/// The least cost of the ring of three buses, found by another method.
+const LEAST: u64 = 14_394_373;
+
+#[test]
+fn a_ring_of_three_closes_at_its_least_cost(rt: HostRuntime) -> Result<(), test::Fail> {
+    let mut folder = folder_of(&rt, &[], None)?;
+    let (status, out) = called(&rt, &["drill", "3"], &mut folder)?;
+    assert_eq!(rt; status, 0);
+    let text = str::from_utf8(out.bytes()).expect(&rt, "a text");
+    let report = text
+        .strip_prefix("drill 3 relays 6 rows 12\nclosed cost ")
+        .expect(&rt, "a closed ring");
+    let (cost, _) = report.split_once(' ').expect(&rt, "a cost");
+    let cost = cost.parse::<u64>().expect(&rt, "a number");
+    assert!(rt; LEAST <= cost && cost <= LEAST + 10_000, "{cost}");
+    Ok(())
+}
+
+#[test]
+fn a_ring_of_twelve_ends_the_same_twice(rt: HostRuntime) -> Result<(), test::Fail> {
+    let mut folder = folder_of(&rt, &[], None)?;
+    let (status, out) = called(&rt, &["drill", "12"], &mut folder)?;
+    let (again, same) = called(&rt, &["drill", "12"], &mut folder)?;
+    assert!(rt; status == 0 || status == 4);
+    assert_eq!(rt; again, status);
+    assert!(rt; out.bytes().starts_with(b"drill 12 relays 24 rows 48\n"));
+    assert!(rt; same.bytes() == out.bytes());
+    Ok(())
+}
