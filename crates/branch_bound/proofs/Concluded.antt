@@ -22,7 +22,7 @@ use Rattle.margin_rows.proofs.Spanned.{first_box_fits}
 use Rattle.box_range.specs.Drops.{none}
 use Rattle.cert_tree.specs.Endings.{boxes as boxes_of, ending_of, has_hair, has_no_settings, has_open_leaf, is_close}
 use Rattle.cert_tree.specs.Holding.{Holds}
-use Rattle.cert_tree.specs.NodeFaults.{IsRight}
+use Rattle.cert_tree.specs.NodeRules.{IsRight}
 use Rattle.cert_tree.proofs.TightBoxes.{tight_or_emptied}
 use Rattle.step_rules.specs.Issuing.{IsPriced, settings_of}
 use Rattle.step_rules.specs.declared.issued.Issued.{Issued}

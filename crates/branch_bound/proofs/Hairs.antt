@@ -14,7 +14,7 @@ use Rattle.margin_rows.proofs.LowestSettings.{lowest_first}
 use Rattle.box_range.specs.Drops.{Drops, IsTight, MeetsAllLoosely}
 use Rattle.box_range.proofs.TightLaws.{lowest_loosely}
 use Rattle.cert_tree.specs.Endings.{has_hair}
-use Rattle.cert_tree.specs.NodeFaults.{IsRight}
+use Rattle.cert_tree.specs.NodeRules.{IsRight}
 use Rattle.cert_tree.proofs.TightBoxes.{tight_fits, tight_only}
 use Rattle.cert_tree.proofs.TreeLaws.{halves_fit, same_halves}
 use Rattle.branch_bound.specs.Facts.{Every}

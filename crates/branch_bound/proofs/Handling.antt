@@ -19,7 +19,7 @@ use Rattle.margin_rows.specs.Unmet.{IsFirstUnmet}
 use Rattle.margin_rows.specs.declared.span.Steps.{Steps}
 use Rattle.margin_rows.proofs.Halved.{halves_are}
 use Rattle.margin_rows.proofs.Places.{some_and}
-use Rattle.cert_tree.specs.NodeFaults.{IsTightBox, NamesRows}
+use Rattle.cert_tree.specs.NodeRules.{IsTightBox, NamesRows}
 use Rattle.cert_tree.proofs.TightBoxes.{tight_fits}
 use Rattle.step_rules.specs.Offers.{PlainReaches, offered}
 use Rattle.step_rules.specs.Rules.{Advised, ClosesBy, Handled, IsAsked, IsSingle, IsSplitPlace, IsUsedAdvice, IsVoidBy, TightensTo, candidates, closed, closed_later, divided, emptied, open_with, single_closed, single_open, voided, weighed}

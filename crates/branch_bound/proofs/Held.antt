@@ -5,7 +5,7 @@ use Rattle.margin_rows.specs.Box.{Box, FitsBox}
 use Rattle.margin_rows.specs.Case.{Case}
 use Rattle.box_bound.proofs.DualValues.{dual_value_of}
 use Rattle.cert_tree.specs.Holding.{Holds, at_bound, at_empty, at_hair, at_open_leaf, at_split, at_void}
-use Rattle.cert_tree.specs.NodeFaults.{IsRight}
+use Rattle.cert_tree.specs.NodeRules.{IsRight}
 use Rattle.cert_tree.proofs.TightBoxes.{tight_fits}
 use Rattle.cert_tree.proofs.TreeLaws.{halves_fit}
 use Rattle.branch_bound.specs.Facts.{Every}

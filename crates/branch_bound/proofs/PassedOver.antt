@@ -27,7 +27,7 @@ use Rattle.box_bound.proofs.BelowCosts.{bound_below_cost}
 use Rattle.box_bound.proofs.Duality.{rows_met, weak_duality}
 use Rattle.box_bound.proofs.LowestBounds.{costs_rise}
 use Rattle.cert_tree.specs.Endings.{has_open_leaf}
-use Rattle.cert_tree.specs.NodeFaults.{IsTightBox}
+use Rattle.cert_tree.specs.NodeRules.{IsTightBox}
 use Rattle.cert_tree.proofs.TightBoxes.{tight_fits, tight_only}
 use Rattle.cert_tree.proofs.TreeLaws.{can_split, halves_fit}
 use Rattle.step_rules.specs.Offers.{lowest_pickups}

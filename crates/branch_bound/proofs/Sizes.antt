@@ -18,7 +18,7 @@ use Rattle.margin_rows.specs.declared.span.Steps.{Steps}
 use Rattle.margin_rows.proofs.Places.{some_and}
 use Rattle.box_range.proofs.Order.{drops_within}
 use Rattle.cert_tree.specs.Endings.{boxes, has_open_leaf}
-use Rattle.cert_tree.specs.NodeFaults.{IsRight}
+use Rattle.cert_tree.specs.NodeRules.{IsRight}
 use Rattle.cert_tree.proofs.TreeLaws.{can_split, halves_fit}
 use Rattle.branch_bound.specs.Choices.{choices, product}
 use Rattle.branch_bound.specs.Facts.{Every}

@@ -3,7 +3,7 @@ use Rattle.std.proofs.Common.{subst}
 use Rattle.coord_model.specs.Tree.{Single, Tree, bound, empty, hair, open_leaf, root, split, void}
 use Rattle.margin_rows.specs.Box.{Box, FitsBox}
 use Rattle.margin_rows.specs.Case.{Case}
-use Rattle.cert_tree.specs.NodeFaults.{IsRight}
+use Rattle.cert_tree.specs.NodeRules.{IsRight}
 use Rattle.cert_tree.proofs.TreeLaws.{halves_fit, same_halves}
 use Rattle.step_rules.specs.Rules.{open_with}
 use Rattle.step_rules.specs.Usable.{LeafWeights}

@@ -11,7 +11,7 @@ use Rattle.margin_rows.specs.Least.{IsStrictLeast, IsStrictLeastOf}
 use Rattle.margin_rows.specs.Price.{cost_of}
 use Rattle.cert_tree.specs.Endings.{boxes}
 use Rattle.cert_tree.specs.Holding.{AreTightHalves}
-use Rattle.cert_tree.specs.NodeFaults.{IsRight, IsTightBox}
+use Rattle.cert_tree.specs.NodeRules.{IsRight, IsTightBox}
 use Rattle.step_rules.specs.Offers.{Reaches, lowest_pickups}
 use Rattle.step_rules.specs.Usable.{HasBound, LeafWeights}
 use Rattle.branch_bound.specs.Machine.{State}

@@ -14,7 +14,7 @@ use Rattle.margin_rows.specs.Price.{cost_of}
 use Rattle.box_range.specs.Drops.{MeetsAllLoosely}
 use Rattle.cert_tree.specs.Endings.{boxes, ending_of, has_hair, has_open_leaf}
 use Rattle.cert_tree.specs.Holding.{AreTightHalves, Holds}
-use Rattle.cert_tree.specs.NodeFaults.{IsTightBox}
+use Rattle.cert_tree.specs.NodeRules.{IsTightBox}
 use Rattle.step_rules.specs.Issuing.{IsGapOf}
 use Rattle.branch_bound.specs.Advancing.{IsRefused}
 use Rattle.branch_bound.specs.Choices.{choices}

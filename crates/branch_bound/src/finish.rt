@@ -7,7 +7,7 @@ ghost use Rattle.coord_model.specs.declared.choice.Ending.TheVariants.{Hairline}
 ghost use Rattle.margin_rows.specs.Box.{FitsBox};
 ghost use Rattle.margin_rows.specs.Case.{Case};
 ghost use Rattle.cert_tree.specs.Endings.{has_hair};
-ghost use Rattle.cert_tree.specs.NodeFaults.{IsRight};
+ghost use Rattle.cert_tree.specs.NodeRules.{IsRight};
 ghost use Rattle.step_rules.specs.Issuing.{IsPriced, costs, settings_of};
 ghost use Rattle.branch_bound.specs.Concluding.{IsConcluded};
 ghost use Rattle.branch_bound.specs.Facts.{Every};

@@ -5,7 +5,7 @@ ghost use Rattle.coord_model.specs.Tree.{shape};
 ghost use Rattle.margin_rows.specs.Box.{Box, FitsBox};
 ghost use Rattle.margin_rows.specs.Lowest.{lowest_of};
 ghost use Rattle.cert_tree.specs.Endings.{has_hair};
-ghost use Rattle.cert_tree.specs.NodeFaults.{IsRight, IsTightBox};
+ghost use Rattle.cert_tree.specs.NodeRules.{IsRight, IsTightBox};
 ghost use Rattle.branch_bound.specs.Facts.{Every};
 ghost use Rattle.branch_bound.specs.Outcome.{IsFirstHair};
 

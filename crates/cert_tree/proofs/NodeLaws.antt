@@ -11,7 +11,8 @@ use Rattle.margin_rows.specs.Case.{Case}
 use Rattle.margin_rows.proofs.Placed.{of_some}
 use Rattle.margin_rows.proofs.Places.{some_and}
 use Rattle.cert_tree.specs.Judgement.{single}
-use Rattle.cert_tree.specs.NodeFaults.{Asks, IsClosing, IsFirstWrong, IsRight, IsTightBox, IsVoid, IsWrong, NamesRows, rank}
+use Rattle.cert_tree.specs.NodeFaults.{IsClosing, IsFirstWrong, IsWrong, rank}
+use Rattle.cert_tree.specs.NodeRules.{Asks, IsRight, IsTightBox, IsVoid, NamesRows}
 use Rattle.cert_tree.specs.declared.kind.NodeKind.{NodeKind}
 use Rattle.cert_tree.specs.declared.kind.NodeKind.TheVariants.{RowNumber, SplitRelay, NotEmpty, Emptied, NotVoid, ManyPickups, NotHair, SplitAt}
 use Rattle.cert_tree.proofs.TightBoxes.{tight_only, tight_or_emptied}

@@ -20,7 +20,7 @@ use Rattle.box_bound.specs.Weighing.{FitWeights}
 use Rattle.box_bound.proofs.Duality.{bound_costs, rows_met, weak_duality}
 use Rattle.cert_tree.specs.Holding.{Holds, lower}
 use Rattle.cert_tree.specs.Judgement.{IsDualBound}
-use Rattle.cert_tree.specs.NodeFaults.{IsTightBox}
+use Rattle.cert_tree.specs.NodeRules.{IsTightBox}
 use Rattle.cert_tree.specs.Proving.{IsProved}
 use Rattle.cert_tree.proofs.TightBoxes.{tight_fits}
 use Rattle.cert_tree.proofs.TreeLaws.{can_split, halves_fit, parts}

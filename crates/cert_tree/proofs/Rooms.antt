@@ -13,7 +13,7 @@ use Rattle.margin_rows.specs.Within.{IsWithin}
 use Rattle.coord_model.specs.Tree.{empty}
 use Rattle.coord_model.specs.declared.weights.Weight.{Weight}
 use Rattle.cert_tree.specs.Judgement.{IsRightWith, single}
-use Rattle.cert_tree.specs.NodeFaults.{IsTightBox}
+use Rattle.cert_tree.specs.NodeRules.{IsTightBox}
 use Rattle.cert_tree.proofs.TightBoxes.{tight_only}
 use Rattle.cert_tree.proofs.TreeLaws.{halves_fit}
 use Rattle.cert_tree.specs.Room.{AreAlike, IsLike, box_at, no_box}

@@ -9,7 +9,7 @@ use Rattle.margin_rows.proofs.Places.{some_and}
 use Rattle.margin_rows.proofs.Within.{fits_within}
 use Rattle.box_range.specs.Drops.{IsEmptied}
 use Rattle.box_range.proofs.Order.{drops_within, one_tight, tight_not_emptied}
-use Rattle.cert_tree.specs.NodeFaults.{IsTightBox}
+use Rattle.cert_tree.specs.NodeRules.{IsTightBox}
 
 -- a box has at most one tight box
 pub tight_only : (case : Case) (box a b : Box) → IsTightBox case box a → IsTightBox case box b → a ≡ b

@@ -13,7 +13,8 @@ use Rattle.box_bound.specs.LowerBound.{bound_at, IsPlainBound}
 use Rattle.box_bound.proofs.Values.{value_only}
 use Rattle.cert_tree.specs.Holding.{AreTightHalves, Fails, Holds, at_bound, at_empty, at_hair, at_open_leaf, at_split, at_void, below_high, below_low, here, lower}
 use Rattle.cert_tree.specs.Judgement.{Gives, IsDualBound}
-use Rattle.cert_tree.specs.NodeFaults.{Asks, IsFirstWrong, IsRight, IsTightBox}
+use Rattle.cert_tree.specs.NodeFaults.{IsFirstWrong}
+use Rattle.cert_tree.specs.NodeRules.{Asks, IsRight, IsTightBox}
 use Rattle.cert_tree.specs.declared.kind.NodeKind.{NodeKind}
 use Rattle.cert_tree.proofs.NodeLaws.{first_only, right_not_wrong}
 use Rattle.cert_tree.proofs.TightBoxes.{halves_only, tight_fits, tight_only}

@@ -8,7 +8,7 @@ use Rattle.cert_tree.specs.declared.counts.Counts.{Counts}
 abbrev pub no_counts : Counts
 no_counts = record { boxes = 0; open_leaf = false; hair = false; no_settings = true }
 
--- what a split or a leaf that allows no settings comes to, a leaf with a bound, a hair leaf, and an open one
+-- what a split or a leaf that allows no settings comes to, a leaf with a bound, a hair, an open leaf
 abbrev pub counts_by : NodeLine → Counts
 counts_by (Split relay at) = record { boxes = 1; open_leaf = false; hair = false; no_settings = true }
 counts_by Empty = record { boxes = 1; open_leaf = false; hair = false; no_settings = true }

@@ -7,7 +7,8 @@ use Rattle.margin_rows.specs.Case.{Case}
 use Rattle.margin_rows.specs.Halves.{AreHalves}
 use Rattle.box_bound.specs.DualValue.{IsDualValue}
 use Rattle.box_bound.specs.LowerBound.{bound_at, IsPlainBound}
-use Rattle.cert_tree.specs.NodeFaults.{IsTightBox, IsRight, IsFirstWrong}
+use Rattle.cert_tree.specs.NodeFaults.{IsFirstWrong}
+use Rattle.cert_tree.specs.NodeRules.{IsTightBox, IsRight}
 use Rattle.cert_tree.specs.declared.kind.NodeKind.{NodeKind}
 
 -- the lower of two bounds, if there are any
@@ -27,23 +28,30 @@ pub record AreTightHalves (case : Case) (box : Box) (relay at : ℕ) (low high :
 pub data Holds (case : Case) : Box → Tree → Option ℕ → Type 0 where
   at_split : {box low high : Box} {relay at : ℕ} {below above : Tree} {a b : Option ℕ}
       → IsRight case box (root (split relay at below above)) → AreTightHalves case box relay at low high
-      → Holds case low below a → Holds case high above b → Holds case box (split relay at below above) (lower a b)
+      → Holds case low below a → Holds case high above b
+      → Holds case box (split relay at below above) (lower a b)
   at_empty : {box : Box} → IsRight case box (root empty) → Holds case box empty None
-  at_void : {box : Box} {weights : List Weight} → IsRight case box (root (void weights)) → Holds case box (void weights) None
-  at_bound : {box tight : Box} {lambda : ℕ} {weights : List Weight} {value : ℤ} → IsRight case box (root (bound lambda weights))
+  at_void : {box : Box} {weights : List Weight}
+      → IsRight case box (root (void weights)) → Holds case box (void weights) None
+  at_bound : {box tight : Box} {lambda : ℕ} {weights : List Weight} {value : ℤ}
+      → IsRight case box (root (bound lambda weights))
       → IsTightBox case box tight → IsDualValue case tight lambda weights value
       → Holds case box (bound lambda weights) (Some (bound_at value lambda))
   at_hair : {box tight : Box} {row plain : ℕ} → IsRight case box (root (hair row))
       → IsTightBox case box tight → IsPlainBound case tight plain → Holds case box (hair row) (Some plain)
-  at_open_leaf : {box : Box} {lambda : ℕ} {weights : List Weight} {value : ℤ} → IsRight case box (root (open_leaf lambda weights))
-      → IsDualValue case box lambda weights value → Holds case box (open_leaf lambda weights) (Some (bound_at value lambda))
+  at_open_leaf : {box : Box} {lambda : ℕ} {weights : List Weight} {value : ℤ}
+      → IsRight case box (root (open_leaf lambda weights))
+      → IsDualValue case box lambda weights value
+      → Holds case box (open_leaf lambda weights) (Some (bound_at value lambda))
 
 -- the node with this number, counted from 1 in pre-order, is the first of the tree that is wrong, and in this way
 pub data Fails (case : Case) : Box → Tree → ℕ → NodeKind → Type 0 where
-  here : {box : Box} {tree : Tree} {kind : NodeKind} → IsFirstWrong case box (root tree) kind → Fails case box tree 1 kind
+  here : {box : Box} {tree : Tree} {kind : NodeKind}
+      → IsFirstWrong case box (root tree) kind → Fails case box tree 1 kind
   below_low : {box low high : Box} {relay at number : ℕ} {below above : Tree} {kind : NodeKind}
       → IsRight case box (root (split relay at below above)) → AreTightHalves case box relay at low high
-      → Fails case low below number kind → Fails case box (split relay at below above) (suc number) kind
+      → Fails case low below number kind
+      → Fails case box (split relay at below above) (suc number) kind
   below_high : {box low high : Box} {relay at number : ℕ} {below above : Tree} {a : Option ℕ} {kind : NodeKind}
       → IsRight case box (root (split relay at below above)) → AreTightHalves case box relay at low high
       → Holds case low below a → Fails case high above number kind

@@ -8,7 +8,8 @@ use Rattle.margin_rows.specs.Box.{Box}
 use Rattle.margin_rows.specs.Case.{Case}
 use Rattle.box_bound.specs.DualValue.{IsDualValue}
 use Rattle.box_bound.specs.LowerBound.{bound_at, IsPlainBound}
-use Rattle.cert_tree.specs.NodeFaults.{IsTightBox, IsRight, IsFirstWrong}
+use Rattle.cert_tree.specs.NodeFaults.{IsFirstWrong}
+use Rattle.cert_tree.specs.NodeRules.{IsTightBox, IsRight}
 use Rattle.cert_tree.specs.declared.kind.NodeKind.{NodeKind}
 
 -- a node by its line and its weights
@@ -36,9 +37,13 @@ Gives case box weights (Split relay at) given = given ≡ None
 Gives case box weights Empty given = given ≡ None
 Gives case box weights Void given = given ≡ None
 Gives case box weights (Bound lambda) given =
-    (tight : Box) × (bound : ℕ) × IsTightBox case box tight × IsDualBound case tight lambda weights bound × (given ≡ Some bound)
-Gives case box weights (Hair row) given = (tight : Box) × (bound : ℕ) × IsTightBox case box tight × IsPlainBound case tight bound × (given ≡ Some bound)
-Gives case box weights (OpenLeaf lambda) given = (bound : ℕ) × IsDualBound case box lambda weights bound × (given ≡ Some bound)
+    (tight : Box) × (bound : ℕ) × IsTightBox case box tight
+    × IsDualBound case tight lambda weights bound × (given ≡ Some bound)
+Gives case box weights (Hair row) given =
+    (tight : Box) × (bound : ℕ) × IsTightBox case box tight
+    × IsPlainBound case tight bound × (given ≡ Some bound)
+Gives case box weights (OpenLeaf lambda) given =
+    (bound : ℕ) × IsDualBound case box lambda weights bound × (given ≡ Some bound)
 
 -- the node is right at its box, and gives this
 pub record IsRightWith (case : Case) (box : Box) (node : Single) (given : Option ℕ) : Type 0 where

@@ -1,3 +1,4 @@
+pub mod NodeRules
 pub mod NodeFaults
 pub mod Holding
 pub mod Endings

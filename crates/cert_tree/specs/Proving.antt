@@ -8,5 +8,8 @@ use Rattle.margin_rows.specs.Case.{Case}
 
 -- with a bound, all allowed settings of the box cost at least that; with none, no settings of the box are allowed
 abbrev pub IsProved : Case → Box → Option ℕ → Type 0
-IsProved case box (Some bound) = (settings : Settings) → LiesIn box settings → IsAllowed case.study case.currents settings → CostsAtLeast case.study case.currents settings bound
-IsProved case box None = (settings : Settings) → LiesIn box settings → ¬ (IsAllowed case.study case.currents settings)
+IsProved case box (Some bound) =
+    (settings : Settings) → LiesIn box settings → IsAllowed case.study case.currents settings
+    → CostsAtLeast case.study case.currents settings bound
+IsProved case box None =
+    (settings : Settings) → LiesIn box settings → ¬ (IsAllowed case.study case.currents settings)

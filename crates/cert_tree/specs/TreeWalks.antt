@@ -13,7 +13,8 @@ abbrev pub walk_at : Box → Walk
 walk_at box = record { due = box ∷ []; nodes = 0; counts = no_counts; bound = None; refused = false }
 
 -- the walk took a tree at the first due box, where it holds: the others are due, and what the tree comes to is added
-pub record IsPast (case : Case) (before : Walk) (box : Box) (others : List Box) (tree : Tree) (after : Walk) : Type 0 where
+pub record IsPast (case : Case) (before : Walk) (box : Box) (others : List Box) (tree : Tree)
+    (after : Walk) : Type 0 where
   pub given : Option ℕ
   pub holds : Holds case box tree given
   pub due : after.due ≡ others

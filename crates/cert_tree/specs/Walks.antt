@@ -28,7 +28,9 @@ AtFirst P (box ∷ others) = P box
 
 -- the boxes that are due after a node: before the others, the halves of a split's tight box, the low one first
 abbrev pub AreDueAfter : Case → Box → List Box → NodeLine → List Box → Type 0
-AreDueAfter case box others (Split relay at) later = (low : Box) × (high : Box) × AreTightHalves case box relay at low high × (later ≡ low ∷ high ∷ others)
+AreDueAfter case box others (Split relay at) later =
+    (low : Box) × (high : Box) × AreTightHalves case box relay at low high
+    × (later ≡ low ∷ high ∷ others)
 AreDueAfter case box others Empty later = later ≡ others
 AreDueAfter case box others Void later = later ≡ others
 AreDueAfter case box others (Bound lambda) later = later ≡ others
@@ -51,11 +53,13 @@ pub record Takes (case : Case) (before : Walk) (node : Single) (after : Walk) : 
 -- the walk takes the nodes one after another
 abbrev pub Walked : Case → Walk → List Single → Walk → Type 0
 Walked case walk [] later = later ≡ walk
-Walked case walk (node ∷ nodes) later = (next : Walk) × Takes case walk node next × Walked case next nodes later
+Walked case walk (node ∷ nodes) later =
+    (next : Walk) × Takes case walk node next × Walked case next nodes later
 
 -- the walk takes the nodes before the one with this number, counted from 1, and that one is wrong first in this way
 abbrev pub Refuses : Case → Walk → List Single → ℕ → NodeKind → Type 0
 Refuses case walk [] number kind = ⊥
 Refuses case walk (node ∷ nodes) number kind =
     (AtFirst (λ box. IsFirstWrong case box node kind) walk.due × (number ≡ 1))
-    ⊎ ((next : Walk) × (more : ℕ) × Takes case walk node next × Refuses case next nodes more kind × (number ≡ suc more))
+    ⊎ ((next : Walk) × (more : ℕ) × Takes case walk node next
+    × Refuses case next nodes more kind × (number ≡ suc more))

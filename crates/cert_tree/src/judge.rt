@@ -7,7 +7,7 @@ ghost use Rattle.margin_rows.specs.Case.{rows_in, FitsCase};
 ghost use Rattle.margin_rows.specs.Within.{IsWithin};
 ghost use Rattle.box_bound.specs.Weighing.{FitWeights};
 ghost use Rattle.cert_tree.specs.Judgement.{single, HasLambda, IsJudged};
-ghost use Rattle.cert_tree.specs.NodeFaults.{IsTightBox, NamesRows};
+ghost use Rattle.cert_tree.specs.NodeRules.{IsTightBox, NamesRows};
 
 use crate::kind::NodeKind;
 use box_bound::{bound_of, plain, value};

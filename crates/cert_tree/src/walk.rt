@@ -7,7 +7,8 @@ ghost use Rattle.cert_tree.specs.Counting.{no_counts};
 ghost use Rattle.cert_tree.specs.Endings.{ending_by};
 ghost use Rattle.cert_tree.specs.Holding.{lower};
 ghost use Rattle.cert_tree.specs.Judgement.{single, HasLambda};
-ghost use Rattle.cert_tree.specs.NodeFaults.{IsRight, IsFirstWrong};
+ghost use Rattle.cert_tree.specs.NodeFaults.{IsFirstWrong};
+ghost use Rattle.cert_tree.specs.NodeRules.{IsRight};
 ghost use Rattle.cert_tree.specs.TreeWalks.{walk_at};
 ghost use Rattle.cert_tree.specs.Walks.{AtFirst, Takes};
 

@@ -8,7 +8,7 @@ use Rattle.coord_model.specs.declared.choice.Ending.TheVariants.{Hairline}
 use Rattle.branch_bound.specs.Outcome.{IsFirstHair}
 use Rattle.cert_tree.specs.Endings.{has_hair}
 use Rattle.cert_tree.specs.Holding.{Holds}
-use Rattle.cert_tree.specs.NodeFaults.{IsRight}
+use Rattle.cert_tree.specs.NodeRules.{IsRight}
 use Rattle.branch_bound.specs.Concluding.{end_state}
 use Rattle.branch_bound.specs.Facts.{Every}
 use Rattle.branch_bound.proofs.Concluded.{fair, hair_shown, hair_stands, passes, priced_first, right, suffices, tree_fits, tree_holds}

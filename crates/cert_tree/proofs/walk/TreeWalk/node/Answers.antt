@@ -2,7 +2,7 @@ use Rattle.std.proofs.Common.{◌≡◌, ◌+◌, ◌<◌, ◌≤◌, All, List,
 use Rattle.margin_rows.specs.Box.{Box, FitsBox}
 use Rattle.cert_tree.specs.Counting.{counts_by}
 use Rattle.cert_tree.specs.Judgement.{single}
-use Rattle.cert_tree.specs.NodeFaults.{IsRight}
+use Rattle.cert_tree.specs.NodeRules.{IsRight}
 use Rattle.cert_tree.specs.Room.{IsRoom, box_at}
 use Rattle.cert_tree.specs.Walks.{AtFirst, Walk}
 use Rattle.cert_tree.specs.declared.counts.Counts.{Counts}
