@@ -12,7 +12,7 @@ use Rattle.margin_rows.specs.Dial.{dial_at_step}
 use Rattle.margin_rows.specs.Price.{term_sum}
 use Rattle.margin_rows.specs.Times.{time_at}
 use Rattle.margin_rows.specs.declared.span.Steps.{Steps}
-use Rattle.box_bound.specs.DualValue.{primary_part, backup_part, gain, loss, at_dial, part, IsLeastPart}
+use Rattle.box_bound.specs.RelayParts.{IsLeastPart, at_dial, backup_part, gain, loss, part, primary_part}
 use Rattle.box_bound.specs.Weighing.{FitWeights, touches, touching}
 
 -- a sum over what passes a test is the sum over all, where the others count 0

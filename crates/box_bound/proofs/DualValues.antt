@@ -9,7 +9,8 @@ use Rattle.margin_rows.specs.Case.{Case}
 use Rattle.margin_rows.specs.declared.span.Span.{Span}
 use Rattle.margin_rows.specs.declared.span.Steps.{Steps}
 use Rattle.margin_rows.proofs.Within.{some_each}
-use Rattle.box_bound.specs.DualValue.{IsDualValue, IsLeastPart, dials_of, part, pickups_of}
+use Rattle.box_bound.specs.DualValue.{IsDualValue}
+use Rattle.box_bound.specs.RelayParts.{IsLeastPart, dials_of, part, pickups_of}
 use Rattle.box_bound.proofs.Leasts.{least_more, least_of_ends}
 use Rattle.box_bound.proofs.Spans.{IsSpanRead}
 use Rattle.box_bound.proofs.Totals.{IsSumOf, no_sum, sum_all, sum_more}

@@ -32,7 +32,8 @@ use Rattle.margin_rows.proofs.Boxed.{set_terms}
 use Rattle.margin_rows.proofs.Inside.{box_lies_first}
 use Rattle.margin_rows.proofs.Listed.{at_number, row_facts, term_facts}
 use Rattle.margin_rows.proofs.Placed.{of_some}
-use Rattle.box_bound.specs.DualValue.{pickups_of, dials_of, primary_part, gain, loss, at_dial, part, total, weighted_constant, IsLeastPart, IsDualValue}
+use Rattle.box_bound.specs.DualValue.{IsDualValue, total, weighted_constant}
+use Rattle.box_bound.specs.RelayParts.{IsLeastPart, at_dial, dials_of, gain, loss, part, pickups_of, primary_part}
 use Rattle.box_bound.specs.LowerBound.{bound_at}
 use Rattle.box_bound.specs.Weighing.{FitWeights}
 use Rattle.box_bound.proofs.Swaps.{between, between_mixed, swap, total_le}

@@ -11,7 +11,7 @@ use Rattle.margin_rows.specs.Case.{Case}
 use Rattle.margin_rows.specs.Dial.{dial_at_step}
 use Rattle.margin_rows.specs.declared.span.Span.{Span}
 use Rattle.margin_rows.specs.declared.span.Steps.{Steps}
-use Rattle.box_bound.specs.DualValue.{gain, loss, at_dial, part, IsEnd, IsLeastPart}
+use Rattle.box_bound.specs.RelayParts.{IsEnd, IsLeastPart, at_dial, gain, loss, part}
 use Rattle.box_bound.specs.Standing.{IsSmall}
 use Rattle.box_bound.proofs.Spans.{IsSpanRead}
 

@@ -29,7 +29,8 @@ use Rattle.margin_rows.proofs.Listed.{term_facts}
 use Rattle.margin_rows.proofs.LowestSettings.{lowest_first, lowest_lies}
 use Rattle.margin_rows.proofs.SmallSums.{least_sum_small}
 use Rattle.margin_rows.proofs.Within.{some_each}
-use Rattle.box_bound.specs.DualValue.{dials_of, pickups_of, total, IsDualValue, IsLeastPart}
+use Rattle.box_bound.specs.DualValue.{IsDualValue, total}
+use Rattle.box_bound.specs.RelayParts.{IsLeastPart, dials_of, pickups_of}
 use Rattle.box_bound.specs.LowerBound.{bound_at}
 use Rattle.box_bound.proofs.Duality.{weak_duality}
 use Rattle.box_bound.proofs.Swaps.{between, swap, total_ge}

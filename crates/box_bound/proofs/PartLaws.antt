@@ -12,7 +12,8 @@ use Rattle.margin_rows.specs.Case.{Case, FitsCase}
 use Rattle.margin_rows.proofs.Places.{some_and, and_some, each_push}
 use mir.Syntax.{w128}
 use mir.Val.{SFits}
-use Rattle.box_bound.specs.DualValue.{IsLeastPart, dials_of, pickups_of, total}
+use Rattle.box_bound.specs.DualValue.{total}
+use Rattle.box_bound.specs.RelayParts.{IsLeastPart, dials_of, pickups_of}
 use Rattle.box_bound.specs.Standing.{AreSmall, HasSameSpans, IsSmall, StandFor}
 use Rattle.box_bound.proofs.Totals.{total_push}
 

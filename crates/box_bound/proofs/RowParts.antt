@@ -8,7 +8,7 @@ use Rattle.margin_rows.specs.Case.{Case, row_at}
 use Rattle.margin_rows.specs.Demands.{fast_part, slow_part}
 use Rattle.margin_rows.specs.Times.{time_at}
 use Rattle.margin_rows.proofs.Summed.{chosen}
-use Rattle.box_bound.specs.DualValue.{primary_part, backup_part}
+use Rattle.box_bound.specs.RelayParts.{backup_part, primary_part}
 
 -- a row of a kind that asks for it counts in full
 fast_whole : (kind : RowKind) (n : ℕ) → kind ≢ Least → fast_part kind n ≡ n

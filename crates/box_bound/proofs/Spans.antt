@@ -10,7 +10,7 @@ use Rattle.margin_rows.specs.declared.span.Span.{Span}
 use Rattle.margin_rows.specs.declared.span.Steps.{Steps}
 use Rattle.margin_rows.proofs.Placed.{of_some}
 use Rattle.margin_rows.proofs.Places.{some_and}
-use Rattle.box_bound.specs.DualValue.{pickups_of, dials_of}
+use Rattle.box_bound.specs.RelayParts.{dials_of, pickups_of}
 
 -- the span has a step, is shown by its first and its last one, and each of its steps is a step of the relay
 pub record IsSpanRead (span : Steps) (shown : Span) (IsStep : ℕ → Type 0) : Type 0 where

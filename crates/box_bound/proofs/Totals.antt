@@ -10,7 +10,8 @@ use Rattle.coord_model.specs.declared.weights.Weight.{Weight}
 use Rattle.margin_rows.specs.Box.{Box}
 use Rattle.margin_rows.specs.Case.{Case}
 use Rattle.margin_rows.proofs.Places.{each_push}
-use Rattle.box_bound.specs.DualValue.{pickups_of, dials_of, total, weighted_constant, IsDualValue, IsLeastPart}
+use Rattle.box_bound.specs.DualValue.{IsDualValue, total, weighted_constant}
+use Rattle.box_bound.specs.RelayParts.{IsLeastPart, dials_of, pickups_of}
 use Rattle.box_bound.specs.Standing.{IsSmall}
 
 -- the interval by the weights, and the least parts of the first n relays

@@ -11,7 +11,8 @@ use Rattle.margin_rows.specs.Within.{IsSpanWithin, IsWithin}
 use Rattle.margin_rows.specs.declared.span.Steps.{Steps}
 use Rattle.margin_rows.proofs.Dialled.{dial_rises}
 use Rattle.margin_rows.proofs.Within.{some_each, within_itself}
-use Rattle.box_bound.specs.DualValue.{dials_of, gain, loss, part, pickups_of, total, weighted_constant, IsDualValue, IsEnd, IsLeastPart}
+use Rattle.box_bound.specs.DualValue.{IsDualValue, total, weighted_constant}
+use Rattle.box_bound.specs.RelayParts.{IsEnd, IsLeastPart, dials_of, gain, loss, part, pickups_of}
 use Rattle.box_bound.proofs.Duality.{ends_suffice}
 
 -- an end of a span that has a step lies in it

@@ -1,3 +1,4 @@
+pub mod RelayParts
 pub mod DualValue
 pub mod LowerBound
 pub mod Standing

@@ -11,4 +11,5 @@ bound_at (negsuc n) lambda = 0
 
 -- the plain bound: that of the dual value with lambda 1 and no weights
 abbrev pub IsPlainBound : Case → Box → ℕ → Type 0
-IsPlainBound case box bound = (value : ℤ) × IsDualValue case box 1 [] value × (bound ≡ bound_at value 1)
+IsPlainBound case box bound =
+    (value : ℤ) × IsDualValue case box 1 [] value × (bound ≡ bound_at value 1)

@@ -1,13 +1,15 @@
--- The least parts of the relays of a box for the cost alone: lambda 1 and no weights (ours). The plain bound is their sum.
+-- The least parts of the relays of a box for the cost alone: lambda 1 and no weights (ours). The
+-- plain bound is their sum.
 use Rattle.std.specs.Prelude.{◌≡◌, ℕ, ◌<◌, ◌≤◌, ◌^◌, ℤ, pos, ◌+ℤ◌, ◌≤ℤ◌, List, [], length, slice_get, All, IsSomeAnd}
 use Rattle.margin_rows.specs.Box.{Box}
 use Rattle.margin_rows.specs.Case.{Case}
-use Rattle.box_bound.specs.DualValue.{IsLeastPart, dials_of, pickups_of}
+use Rattle.box_bound.specs.RelayParts.{IsLeastPart, dials_of, pickups_of}
 
 -- the numbers are the least parts of the relays in the box, one for each relay
 pub record StandFor (case : Case) (box : Box) (parts : List ℤ) : Type 0 where
   pub count : length parts ≡ length case.study.relays
-  pub each : (i : ℕ) → i < length case.study.relays → IsSomeAnd (slice_get parts i) (IsLeastPart case 1 [] i (pickups_of box i) (dials_of box i))
+  pub each : (i : ℕ) → i < length case.study.relays
+      → IsSomeAnd (slice_get parts i) (IsLeastPart case 1 [] i (pickups_of box i) (dials_of box i))
 
 -- the number lies between -2^106 and 2^106
 pub record IsSmall (z : ℤ) : Type 0 where

@@ -1,4 +1,5 @@
--- What a dual value can be worked out for (ours): a box with a step in each span, and weights of rows.
+-- What a dual value can be worked out for (ours): a box with a step in each span, and weights of
+-- rows.
 use Rattle.std.specs.Prelude.{ℕ, ◌<◌, ◌≤◌, ◌==◌, ◌||◌, Bool, List, length, filter, All}
 use Rattle.coord_model.specs.declared.weights.Weight.{Weight}
 use Rattle.margin_rows.specs.Box.{Box, IsFilled}

@@ -1,7 +1,7 @@
 //! What a unit of a relay's dial adds to the dual value.
 ghost use Rattle.std.specs.Prelude.{◌≡◌, ◌<◌, ◌≤◌, ◌^◌};
 ghost use Rattle.margin_rows.specs.FirstBox.{IsFirstStep};
-ghost use Rattle.box_bound.specs.DualValue.{gain, loss, at_dial};
+ghost use Rattle.box_bound.specs.RelayParts.{at_dial, gain, loss};
 ghost use Rattle.box_bound.specs.Weighing.{FitWeights};
 
 use crate::shares::{backup_sum, primary_sum};

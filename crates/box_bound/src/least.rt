@@ -1,7 +1,7 @@
 //! The least part of a relay in the dual value.
 ghost use Rattle.std.specs.Prelude.{◌≡◌, ◌<◌, ◌≤◌, ◌+◌, ◌^◌, pos, ◌+ℤ◌, ◌≤ℤ◌, length};
 ghost use Rattle.margin_rows.specs.FirstBox.{IsFirstStep};
-ghost use Rattle.box_bound.specs.DualValue.{pickups_of, dials_of, IsLeastPart};
+ghost use Rattle.box_bound.specs.RelayParts.{IsLeastPart, dials_of, pickups_of};
 ghost use Rattle.box_bound.specs.Weighing.{IsWeighed};
 
 use crate::coefficient::{at_dial, coefficient_at};

@@ -2,7 +2,7 @@
 ghost use Rattle.std.specs.Prelude.{◌≡◌, ◌<◌, ◌≤◌, ◌*◌, ◌^◌, length, sum_by};
 ghost use Rattle.margin_rows.specs.Case.{rows_in};
 ghost use Rattle.margin_rows.specs.FirstBox.{IsFirstStep};
-ghost use Rattle.box_bound.specs.DualValue.{primary_part, backup_part};
+ghost use Rattle.box_bound.specs.RelayParts.{backup_part, primary_part};
 ghost use Rattle.box_bound.specs.Weighing.{FitWeights};
 
 use coord_model::{RowKind, Weight};

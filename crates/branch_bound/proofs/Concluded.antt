@@ -29,7 +29,8 @@ use Rattle.step_rules.specs.declared.issued.Issued.{Issued}
 use Rattle.branch_bound.specs.Choices.{choices}
 use Rattle.branch_bound.specs.Concluding.{IsConcluded, end_state}
 use Rattle.branch_bound.specs.Facts.{Every, IsFair, IsFairTree}
-use Rattle.branch_bound.specs.Outcome.{IsFirstHair, IsHairPlace, PassesNoneOver}
+use Rattle.branch_bound.specs.HairLeaf.{IsFirstHair, IsHairPlace}
+use Rattle.branch_bound.specs.Outcome.{PassesNoneOver}
 use Rattle.branch_bound.specs.declared.outcome.HairPlace.{HairPlace}
 use Rattle.branch_bound.proofs.Hairs.{hair_settings}
 use Rattle.branch_bound.proofs.Held.{held}

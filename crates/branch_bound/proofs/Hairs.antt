@@ -18,7 +18,7 @@ use Rattle.cert_tree.specs.NodeRules.{IsRight}
 use Rattle.cert_tree.proofs.TightBoxes.{tight_fits, tight_only}
 use Rattle.cert_tree.proofs.TreeLaws.{halves_fit, same_halves}
 use Rattle.branch_bound.specs.Facts.{Every}
-use Rattle.branch_bound.specs.Outcome.{IsFirstHair}
+use Rattle.branch_bound.specs.HairLeaf.{IsFirstHair}
 use Rattle.branch_bound.specs.declared.outcome.HairPlace.{HairPlace}
 
 -- what is left of the box of a split that is right is tight

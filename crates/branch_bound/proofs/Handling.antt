@@ -22,8 +22,10 @@ use Rattle.margin_rows.proofs.Places.{some_and}
 use Rattle.cert_tree.specs.NodeRules.{IsTightBox, NamesRows}
 use Rattle.cert_tree.proofs.TightBoxes.{tight_fits}
 use Rattle.step_rules.specs.Offers.{PlainReaches, offered}
-use Rattle.step_rules.specs.Rules.{Advised, ClosesBy, Handled, IsAsked, IsSingle, IsSplitPlace, IsUsedAdvice, IsVoidBy, TightensTo, candidates, closed, closed_later, divided, emptied, open_with, single_closed, single_open, voided, weighed}
-use Rattle.step_rules.specs.Usable.{LeafWeights, plain_weights}
+use Rattle.step_rules.specs.Premises.{Advised, ClosesBy, IsAsked, IsSingle, IsVoidBy, TightensTo}
+use Rattle.step_rules.specs.Rules.{Handled, closed, closed_later, divided, emptied, single_closed, single_open, voided, weighed}
+use Rattle.step_rules.specs.Splits.{IsSplitPlace, IsUsedAdvice, candidates}
+use Rattle.step_rules.specs.Usable.{LeafWeights, open_with, plain_weights}
 use Rattle.branch_bound.specs.Facts.{Every, IsFair, ReachesCutoff}
 use Rattle.branch_bound.proofs.Offering.{offer_covered}
 

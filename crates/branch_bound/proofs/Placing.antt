@@ -13,8 +13,7 @@ use Rattle.search_tree.specs.Steps.{Turns, turn_here, turn_high, turn_low}
 use Rattle.search_tree.specs.declared.leaf.Leaf.{Leaf}
 use Rattle.search_tree.specs.declared.leaf.Leaf.TheVariants.{Bound, Empty, Hair, Void}
 use Rattle.step_rules.specs.OpenBoxes.{IsOpenBox}
-use Rattle.step_rules.specs.Rules.{open_with}
-use Rattle.step_rules.specs.Usable.{LeafWeights, leaf_weights}
+use Rattle.step_rules.specs.Usable.{LeafWeights, leaf_weights, open_with}
 use Rattle.step_rules.specs.declared.open_box.OpenBox.{OpenBox}
 use Rattle.branch_bound.specs.Machine.{here, in_high, in_low}
 use Rattle.branch_bound.specs.Machine as machine

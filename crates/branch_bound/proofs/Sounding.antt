@@ -16,8 +16,9 @@ use Rattle.margin_rows.specs.Case.{Case}
 use Rattle.margin_rows.specs.Least.{IsStrictLeast, IsStrictLeastOf}
 use Rattle.cert_tree.specs.Endings.{boxes}
 use Rattle.step_rules.specs.Offers.{IsAdvisedOffer, lowest_pickups, offered}
-use Rattle.step_rules.specs.Rules.{Advised, Handled, IsAsked, IsSingle, closed, closed_later, divided, emptied, open_with, single_closed, single_open, voided, weighed}
-use Rattle.step_rules.specs.Usable.{LeafWeights, plain_weights}
+use Rattle.step_rules.specs.Premises.{Advised, IsAsked, IsSingle}
+use Rattle.step_rules.specs.Rules.{Handled, closed, closed_later, divided, emptied, single_closed, single_open, voided, weighed}
+use Rattle.step_rules.specs.Usable.{LeafWeights, open_with, plain_weights}
 use Rattle.branch_bound.specs.Facts.{AreNoDearer, Every, IsCovered, IsFair, IsFairTree, IsSound, Owes, ReachesCutoff}
 use Rattle.branch_bound.specs.Machine.{IsStep, State, Turns, first_state, here, in_high, in_low}
 use Rattle.branch_bound.proofs.Handling.{handled_fair, handled_leaves, none_named, none_stand, open_fair}

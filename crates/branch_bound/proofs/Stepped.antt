@@ -11,8 +11,7 @@ use Rattle.std.proofs.lemmas.List.Elements.{All-contains}
 use Rattle.search_tree.specs.declared.slot.Slot.{Slot}
 use Rattle.step_rules.specs.Issuing.{IsGapOf, settings_of}
 use Rattle.step_rules.specs.OpenBoxes.{IsOpenBox}
-use Rattle.step_rules.specs.Rules.{open_with}
-use Rattle.step_rules.specs.Usable.{leaf_weights, plain_weights}
+use Rattle.step_rules.specs.Usable.{leaf_weights, open_with, plain_weights}
 use Rattle.step_rules.specs.declared.issued.Issued.{Issued}
 use Rattle.step_rules.specs.declared.open_box.OpenBox.{OpenBox}
 use Rattle.cert_tree.specs.Endings.{boxes}

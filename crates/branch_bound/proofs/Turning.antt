@@ -5,8 +5,7 @@ use Rattle.margin_rows.specs.Box.{Box, FitsBox}
 use Rattle.margin_rows.specs.Case.{Case}
 use Rattle.cert_tree.specs.NodeRules.{IsRight}
 use Rattle.cert_tree.proofs.TreeLaws.{halves_fit, same_halves}
-use Rattle.step_rules.specs.Rules.{open_with}
-use Rattle.step_rules.specs.Usable.{LeafWeights}
+use Rattle.step_rules.specs.Usable.{LeafWeights, open_with}
 use Rattle.branch_bound.specs.Facts.{Every}
 use Rattle.branch_bound.specs.Machine.{Turns, here, in_high, in_low}
 

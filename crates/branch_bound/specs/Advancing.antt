@@ -16,11 +16,16 @@ use Rattle.branch_bound.specs.declared.fault.SearchFault.{SearchFault}
 use Rattle.branch_bound.specs.declared.fault.SearchFault.TheVariants.{GapTooSmall, NoMemory}
 
 -- one open box of the tree was handled, and settings may have been issued
-pub record IsAdvance (case : Case) (gap : ℕ) (issued later : Option Issued) (slots more : List (Slot OpenBox)) : Type 0 where
+pub record IsAdvance (case : Case) (gap : ℕ) (issued later : Option Issued)
+    (slots more : List (Slot OpenBox)) : Type 0 where
   pub turned : (first : Box) → Placed case first (plan_of slots)
-      → Turns case (λ box own tree. Handled case gap box own (settings_of issued) (settings_of later) tree) first (tree_in slots) (tree_in more)
+      → Turns case
+      (λ box own tree. Handled case gap box own (settings_of issued) (settings_of later) tree)
+      first (tree_in slots) (tree_in more)
   pub placed : (first : Box) → Placed case first (plan_of slots) → Placed case first (plan_of more)
-  pub leads : (first : Box) (least : ℕ) → Placed case first (plan_of slots) → IsLead (plan_of slots) (Some least) → All (λ entry. least ≤ entry.0) (entries (plan_of more))
+  pub leads : (first : Box) (least : ℕ) → Placed case first (plan_of slots)
+      → IsLead (plan_of slots) (Some least)
+      → All (λ entry. least ≤ entry.0) (entries (plan_of more))
   pub priced : IfSome later (IsPriced case)
   pub count : length more ≤ length slots + 2
 
@@ -30,11 +35,14 @@ pub record IsStepOf (before after : Search) : Type 0 where
   pub same_gap : after.gap ≡ before.gap
   pub same_budget : after.budget ≡ before.budget
   pub one_more : after.boxes ≡ suc before.boxes
-  pub step : (first : Box) → IsFirstBox before.case first → IsStep before.case first before.gap before.budget (state_of before) (state_of after)
+  pub step : (first : Box) → IsFirstBox before.case first
+      → IsStep before.case first before.gap before.budget (state_of before) (state_of after)
 
 -- the least bound of the open boxes did not fall
 abbrev pub HasNotFallen : Search → Search → Type 0
-HasNotFallen before after = (least later : ℕ) → IsLead (plan_of before.slots) (Some least) → IsLead (plan_of after.slots) (Some later) → least ≤ later
+HasNotFallen before after =
+    (least later : ℕ) → IsLead (plan_of before.slots) (Some least)
+    → IsLead (plan_of after.slots) (Some later) → least ≤ later
 
 -- the search is at its beginning
 pub record IsAtStart (case : Case) (gap budget : ℕ) (search : Search) : Type 0 where

@@ -1,4 +1,5 @@
--- How many pickup choices a box has (ours): the product of the numbers of steps in its pickup spans.
+-- How many pickup choices a box has (ours): the product of the numbers of steps in its pickup
+-- spans.
 use Rattle.std.specs.Prelude.{ℕ, ◌-◌, ◌*◌, List, [], ◌∷◌}
 use Rattle.margin_rows.specs.Box.{Box}
 use Rattle.margin_rows.specs.declared.span.Steps.{Steps}

@@ -14,7 +14,8 @@ abbrev pub end_state : Tree → Option Issued → State
 end_state tree issued = record { tree = tree; issued = settings_of issued }
 
 -- the search is done, with this tree and these settings
-pub record IsConcluded (case : Case) (gap budget boxes : ℕ) (issued : Option Issued) (tree : Tree) : Type 0 where
+pub record IsConcluded (case : Case) (gap budget boxes : ℕ) (issued : Option Issued)
+    (tree : Tree) : Type 0 where
   pub limits : FitsCase case
   pub some_budget : 1 ≤ budget
   pub budget_small : budget ≤ 200000

@@ -19,7 +19,8 @@ use Rattle.branch_bound.specs.Machine.{State}
 -- each node of the tree, those below it left aside, is as Q says of its box
 abbrev pub Every : Case → (Box → Single → Type 0) → Box → Tree → Type 0
 Every case Q box (split relay at below above) =
-    (low : Box) × (high : Box) × Q box (root (split relay at below above)) × AreTightHalves case box relay at low high × Every case Q low below × Every case Q high above
+    (low : Box) × (high : Box) × Q box (root (split relay at below above))
+    × AreTightHalves case box relay at low high × Every case Q low below × Every case Q high above
 Every case Q box empty = Q box (root empty)
 Every case Q box (void weights) = Q box (root (void weights))
 Every case Q box (bound lambda weights) = Q box (root (bound lambda weights))
@@ -28,17 +29,20 @@ Every case Q box (open_leaf lambda weights) = Q box (root (open_leaf lambda weig
 
 -- the later settings are there if the earlier ones are, and cost no more
 abbrev pub AreNoDearer : Case → Option Settings → Option Settings → Type 0
-AreNoDearer case before after = IfSome before (λ held. IsSomeAnd after (λ now. cost_of case now ≤ cost_of case held))
+AreNoDearer case before after =
+    IfSome before (λ held. IsSomeAnd after (λ now. cost_of case now ≤ cost_of case held))
 
 -- the bound of a closed leaf reaches the cutoff
-pub record ReachesCutoff (case : Case) (gap : ℕ) (issued : Option Settings) (box : Box) (weights : LeafWeights) : Type 0 where
+pub record ReachesCutoff (case : Case) (gap : ℕ) (issued : Option Settings) (box : Box)
+    (weights : LeafWeights) : Type 0 where
   pub tight : Box
   pub is_tight : IsTightBox case box tight
   pub bound : ℕ
   pub gives : HasBound case tight weights bound
   pub reaches : Reaches case gap issued bound
 
--- if the lowest pickups of the tight box have strict-least settings, settings that cost no more are issued
+-- if the lowest pickups of the tight box have strict-least settings, settings that cost no more are
+-- issued
 pub record IsCovered (case : Case) (issued : Option Settings) (box : Box) : Type 0 where
   pub tight : Box
   pub is_tight : IsTightBox case box tight
@@ -51,23 +55,24 @@ abbrev pub Owes : Case → ℕ → Option Settings → Box → Single → NodeLi
 Owes case gap issued box node (Line.Split relay at) = IsCovered case issued box
 Owes case gap issued box node Line.Empty = ⊤
 Owes case gap issued box node Line.Void = ⊤
-Owes case gap issued box node (Line.Bound lambda) = ReachesCutoff case gap issued box (record { lambda = lambda; rows = node.weights })
+Owes case gap issued box node (Line.Bound lambda) =
+    ReachesCutoff case gap issued box (record { lambda = lambda; rows = node.weights })
 Owes case gap issued box node (Line.Hair row) = IsCovered case issued box
 Owes case gap issued box node (Line.OpenLeaf lambda) = ⊤
 
 -- the node is right at its box, and is owed nothing
-pub record IsFair (case : Case) (gap : ℕ) (issued : Option Settings) (box : Box) (node : Single) : Type 0 where
+pub record IsFair (case : Case) (gap : ℕ) (issued : Option Settings) (box : Box)
+    (node : Single) : Type 0 where
   pub right : IsRight case box node
   pub owes : Owes case gap issued box node node.line
 
 -- no node is wrong, but that a root which is still open may stand at a box with an empty span
 abbrev pub IsFairTree : Case → Box → ℕ → State → Type 0
-IsFairTree case first gap state =
-    ((state.tree ≡ open_leaf 1 []) × HasEmptySpan first) ⊎ Every case (IsFair case gap state.issued) first state.tree
+IsFairTree case first gap state = ((state.tree ≡ open_leaf 1 []) × HasEmptySpan first)
+    ⊎ Every case (IsFair case gap state.issued) first state.tree
 
--- the state is sound: its nodes are right, closed leaves reach the cutoff, no better settings were passed over, the
--- weights of its leaves are within the limits, the issued settings are the strict-least of their pickups, and the boxes
--- are within the budget
+-- the state is sound: its nodes are right and owed nothing, the weights of its leaves are within
+-- the limits, the issued settings strict-least of their pickups, and the boxes within the budget
 pub record IsSound (case : Case) (first : Box) (gap budget : ℕ) (state : State) : Type 0 where
   pub fair : IsFairTree case first gap state
   pub leaves : FitLeaves state.tree

@@ -2,6 +2,7 @@ pub mod Advancing
 pub mod Choices
 pub mod Concluding
 pub mod Facts
+pub mod HairLeaf
 pub mod Machine
 pub mod Outcome
 pub mod Searching

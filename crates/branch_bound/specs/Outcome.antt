@@ -1,57 +1,37 @@
--- What a search comes to (ours): a state that its steps reach and in which it is done, and what that says.
-use Rattle.std.specs.Prelude.{◌≡◌, ◌≢◌, ℕ, ◌+◌, ◌*◌, ◌<◌, ◌≤◌, ◌⊎◌, ⊤, false, length, Option, Some, None, Result, Ok, Err, All, IfSome, IsSomeAnd}
+-- What a search comes to (ours): a state that its steps reach and in which it is done, and what
+-- that says.
+use Rattle.std.specs.Prelude.{◌≡◌, ◌≢◌, ℕ, ◌+◌, ◌*◌, ◌≤◌, ⊤, false, Option, Some, None, Result, Ok, Err, All, IfSome, IsSomeAnd}
 use Rattle.std.specs.Option.{option_map}
 use Rattle.coord_model.specs.Choice.{Settings, choice_data}
-use Rattle.coord_model.specs.Tree.{Tree, bound, empty, hair, open_leaf, shape, split, void}
+use Rattle.coord_model.specs.Tree.{shape}
 use Rattle.coord_model.specs.TreeLimits.{FitsTree}
 use Rattle.coord_model.specs.declared.choice.Ending.TheVariants.{BudgetSpent, Hairline}
 use Rattle.margin_rows.specs.Box.{Box, IsFirstBox}
-use Rattle.margin_rows.specs.Case.{Case, row_at, rows_in}
+use Rattle.margin_rows.specs.Case.{Case, rows_in}
 use Rattle.margin_rows.specs.FirstBox.{IsInFirstBox}
-use Rattle.margin_rows.specs.Lowest.{lowest_of}
 use Rattle.margin_rows.specs.Margin.{MeetsStrictly}
 use Rattle.margin_rows.specs.Price.{cost_of}
-use Rattle.box_range.specs.Drops.{MeetsAllLoosely}
-use Rattle.cert_tree.specs.Endings.{boxes, ending_of, has_hair, has_open_leaf}
-use Rattle.cert_tree.specs.Holding.{AreTightHalves, Holds}
-use Rattle.cert_tree.specs.NodeRules.{IsTightBox}
+use Rattle.cert_tree.specs.Endings.{boxes, ending_of, has_open_leaf}
+use Rattle.cert_tree.specs.Holding.{Holds}
 use Rattle.step_rules.specs.Issuing.{IsGapOf}
 use Rattle.branch_bound.specs.Advancing.{IsRefused}
 use Rattle.branch_bound.specs.Choices.{choices}
 use Rattle.branch_bound.specs.Facts.{IsSound}
+use Rattle.branch_bound.specs.HairLeaf.{IsHairPlace}
 use Rattle.branch_bound.specs.Machine.{IsDone, Run, State, first_state}
 use Rattle.branch_bound.specs.declared.fault.SearchFault.{SearchFault}
-use Rattle.branch_bound.specs.declared.outcome.HairPlace.{HairPlace}
 use Rattle.branch_bound.specs.declared.outcome.Outcome.{Outcome}
 
--- the first hair leaf of the tree in pre-order has this row, and these are the lowest settings of its tight box
-abbrev pub IsFirstHair : Case → Box → Tree → ℕ → Settings → Type 0
-IsFirstHair case box (split relay at below above) row settings =
-    (low : Box) × (high : Box) × AreTightHalves case box relay at low high
-    × (IsFirstHair case low below row settings ⊎ ((has_hair below ≡ false) × IsFirstHair case high above row settings))
-IsFirstHair case box empty row settings = ⊥
-IsFirstHair case box (void weights) row settings = ⊥
-IsFirstHair case box (bound lambda weights) row settings = ⊥
-IsFirstHair case box (hair leaf_row) row settings = (leaf_row ≡ row) × ((tight : Box) × IsTightBox case box tight × (settings ≡ lowest_of tight))
-IsFirstHair case box (open_leaf lambda weights) row settings = ⊥
-
--- the place is the first hair leaf of the tree: its settings lie in the first box, loosely meet every row, and do not
--- strictly meet this one
-pub record IsHairPlace (case : Case) (first : Box) (tree : Tree) (place : HairPlace) : Type 0 where
-  pub is_first : IsFirstHair case first tree place.row (choice_data place.choice)
-  pub is_row : place.row < length (rows_in case)
-  pub first_box : IsInFirstBox case (choice_data place.choice)
-  pub loose : MeetsAllLoosely case (choice_data place.choice)
-  pub unmet : ¬ (MeetsStrictly case (choice_data place.choice) (row_at case place.row))
-
--- settings are issued that cost at most the gap more than each settings that strictly meet every row
+-- settings are issued that cost at most the gap more than any settings that strictly meet every row
 abbrev pub PassesNoneOver : Case → ℕ → Option Settings → Type 0
 PassesNoneOver case gap issued =
-    (settings : Settings) → IsInFirstBox case settings → All (MeetsStrictly case settings) (rows_in case)
+    (settings : Settings) → IsInFirstBox case settings
+    → All (MeetsStrictly case settings) (rows_in case)
     → IsSomeAnd issued (λ held. cost_of case held ≤ cost_of case settings + gap)
 
 -- the outcome is that of a state of the machine
-pub record IsOutcome (case : Case) (gap budget : ℕ) (state : State) (outcome : Outcome) : Type 0 where
+pub record IsOutcome (case : Case) (gap budget : ℕ) (state : State)
+    (outcome : Outcome) : Type 0 where
   pub first : Box
   pub is_first : IsFirstBox case first
   pub sound : IsSound case first gap budget state

@@ -1,4 +1,5 @@
--- A search as the solver keeps it: the machine's state, with the numbers of its nodes and the open boxes (ours).
+-- A search as the solver keeps it: the machine's state, with the numbers of its nodes and the open
+-- boxes (ours).
 use Rattle.std.specs.Prelude.{◌≡◌, ℕ, ◌+◌, ◌*◌, ◌≤◌, ⊤, List, Option, length, IfSome}
 use Rattle.coord_model.specs.Tree.{Tree}
 use Rattle.margin_rows.specs.Box.{Box, IsFirstBox}
@@ -10,8 +11,7 @@ use Rattle.search_tree.specs.Plan.{Plan, closed, opened, plan_of, split}
 use Rattle.search_tree.specs.declared.slot.Slot.{Slot}
 use Rattle.step_rules.specs.Issuing.{IsGapOf, IsPriced, settings_of}
 use Rattle.step_rules.specs.OpenBoxes.{IsOpenBox}
-use Rattle.step_rules.specs.Rules.{open_with}
-use Rattle.step_rules.specs.Usable.{leaf_weights}
+use Rattle.step_rules.specs.Usable.{leaf_weights, open_with}
 use Rattle.step_rules.specs.declared.issued.Issued.{Issued}
 use Rattle.step_rules.specs.declared.open_box.OpenBox.{OpenBox}
 use Rattle.branch_bound.specs.Facts.{IsSound}
@@ -28,7 +28,8 @@ pub record Search : Type 0 where
 
 -- the tree that stands in slots, its open boxes as open leaves with their weights
 abbrev pub tree_in : List (Slot OpenBox) → Tree
-tree_in slots = tree_of (λ (value : OpenBox). open_with (leaf_weights value.weights)) (plan_of slots)
+tree_in slots =
+    tree_of (λ (value : OpenBox). open_with (leaf_weights value.weights)) (plan_of slots)
 
 -- the state of the machine
 abbrev pub state_of : Search → State
@@ -37,9 +38,11 @@ state_of search = record { tree = tree_in search.slots; issued = settings_of sea
 -- each open leaf carries the box at its place, which has the bound of its place
 abbrev pub Placed : Case → Box → Plan OpenBox → Type 0
 Placed case box (split number relay at below above) =
-    (low : Box) × (high : Box) × AreTightHalves case box relay at low high × Placed case low below × Placed case high above
+    (low : Box) × (high : Box) × AreTightHalves case box relay at low high
+    × Placed case low below × Placed case high above
 Placed case box (closed number leaf) = ⊤
-Placed case box (opened number bound value) = (value.ranges ≡ box) × (value.bound ≡ bound) × IsOpenBox case value
+Placed case box (opened number bound value) =
+    (value.ranges ≡ box) × (value.bound ≡ bound) × IsOpenBox case value
 
 -- the search is as its steps leave it
 pub record IsSearch (search : Search) : Type 0 where

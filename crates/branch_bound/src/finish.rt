@@ -11,7 +11,8 @@ ghost use Rattle.cert_tree.specs.NodeRules.{IsRight};
 ghost use Rattle.step_rules.specs.Issuing.{IsPriced, costs, settings_of};
 ghost use Rattle.branch_bound.specs.Concluding.{IsConcluded};
 ghost use Rattle.branch_bound.specs.Facts.{Every};
-ghost use Rattle.branch_bound.specs.Outcome.{IsFirstHair, IsOutcome};
+ghost use Rattle.branch_bound.specs.HairLeaf.{IsFirstHair};
+ghost use Rattle.branch_bound.specs.Outcome.{IsOutcome};
 
 use crate::ending::bound_and_ending;
 use crate::hair::first_hair;

@@ -7,7 +7,7 @@ ghost use Rattle.margin_rows.specs.Lowest.{lowest_of};
 ghost use Rattle.cert_tree.specs.Endings.{has_hair};
 ghost use Rattle.cert_tree.specs.NodeRules.{IsRight, IsTightBox};
 ghost use Rattle.branch_bound.specs.Facts.{Every};
-ghost use Rattle.branch_bound.specs.Outcome.{IsFirstHair};
+ghost use Rattle.branch_bound.specs.HairLeaf.{IsFirstHair};
 
 use crate::outcome::HairPlace;
 use box_range::tighten;

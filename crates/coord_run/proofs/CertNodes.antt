@@ -5,7 +5,8 @@ use Rattle.std.specs.Option.{IsSomeAnd}
 use Rattle.std.proofs.Common.{◌≡◌, ◌∙◌, ℕ, suc, ◌+◌, ◌-◌, ◌^◌, ◌<◌, ◌≤◌, List, [], ◌∷◌, length, Option, arith, refl, subst, sym}
 use Rattle.std.proofs.lemmas.Int.{ints}
 use Rattle.std.proofs.lemmas.List.Elements.{All-head, All-tail}
-use Rattle.box_bound.specs.DualValue.{IsDualValue, IsLeastPart, dials_of, part, pickups_of, total}
+use Rattle.box_bound.specs.DualValue.{IsDualValue, total}
+use Rattle.box_bound.specs.RelayParts.{IsLeastPart, dials_of, part, pickups_of}
 use Rattle.cert_text.proofs.PairWords.{all_append}
 use Rattle.cert_text.specs.Nodes.{AreWeights, IsNode}
 use Rattle.cert_text.specs.Pairs.{AreWithin}

@@ -3,7 +3,8 @@ use Rattle.std.specs.Prelude.{Option, Some, None, is_some, not, ⊤, IfSome, IsS
 use Rattle.std.specs.Option.{option_map}
 use Rattle.std.proofs.Common.{◌≡◌, ◌∙◌, ℕ, ◌<◌, ◌≤◌, Bool, true, false, length, arith, refl, sym, ap, subst}
 use Rattle.std.proofs.lemmas.Bool.Decides.{Decides-eqb}
-use Rattle.branch_bound.specs.Outcome.{IsHairPlace, IsOutcome}
+use Rattle.branch_bound.specs.HairLeaf.{IsHairPlace}
+use Rattle.branch_bound.specs.Outcome.{IsOutcome}
 use Rattle.branch_bound.specs.declared.outcome.HairPlace.{HairPlace}
 use Rattle.branch_bound.specs.declared.outcome.Outcome.{Outcome}
 use Rattle.cert_tree.specs.Endings.{boxes, has_no_settings, has_open_leaf}

@@ -18,7 +18,8 @@ use Rattle.box_bound.proofs.LowestBounds.{CostsMore, low_bound, lowest_fails}
 use Rattle.step_rules.specs.Handlings.{IsDivided, tree_of}
 use Rattle.step_rules.specs.Issuing.{IsGapOf}
 use Rattle.step_rules.specs.Offers.{PlainReaches, Reaches, offered}
-use Rattle.step_rules.specs.Rules.{Advised, ClosesBy, Handled, IsAsked, IsUndecided, IsVoidBy, TightensTo, divided}
+use Rattle.step_rules.specs.Premises.{Advised, ClosesBy, IsAsked, IsUndecided, IsVoidBy, TightensTo}
+use Rattle.step_rules.specs.Rules.{Handled, divided}
 use Rattle.step_rules.specs.Usable.{LeafWeights, plain_weights}
 use Rattle.step_rules.specs.declared.handling.Handling.{Handling}
 use Rattle.step_rules.specs.declared.handling.Handling.TheVariants.{Empty, Void, Bound, Hair, Split}

@@ -6,8 +6,9 @@ use Rattle.margin_rows.specs.Case.{Case}
 use Rattle.margin_rows.specs.Halves.{AreHalves}
 use Rattle.advice.specs.declared.adviser.Advice.{Advice}
 use Rattle.step_rules.specs.OpenBoxes.{IsOpenBox}
-use Rattle.step_rules.specs.Rules.{Advised, IsSplit, TightensTo, open_with}
-use Rattle.step_rules.specs.Usable.{LeafWeights, leaf_weights}
+use Rattle.step_rules.specs.Premises.{Advised, TightensTo}
+use Rattle.step_rules.specs.Splits.{IsSplit}
+use Rattle.step_rules.specs.Usable.{LeafWeights, leaf_weights, open_with}
 use Rattle.step_rules.specs.declared.handling.Handling.{Handling}
 use Rattle.step_rules.specs.declared.handling.Handling.TheVariants.{Empty, Void, Bound, Hair, Split}
 use Rattle.step_rules.specs.declared.open_box.OpenBox.{OpenBox}
@@ -18,14 +19,21 @@ tree_of Empty = empty
 tree_of (Void rows) = void rows.items
 tree_of (Bound weights) = bound weights.lambda weights.rows.items
 tree_of (Hair row) = hair row
-tree_of (Split relay at low high) = split relay at (open_with (leaf_weights low.weights)) (open_with (leaf_weights high.weights))
+tree_of (Split relay at low high) =
+    split relay at (open_with (leaf_weights low.weights)) (open_with (leaf_weights high.weights))
 
 -- what an adviser said, without the room of its lists
 abbrev pub advised_of : Advice → Advised
-advised_of advice = record { weights = leaf_weights advice.weights; relay = advice.relay; at = advice.at; pickups = advice.pickups.items }
+advised_of advice = record {
+  weights = leaf_weights advice.weights;
+  relay = advice.relay;
+  at = advice.at;
+  pickups = advice.pickups.items;
+}
 
 -- the open boxes are the halves of the tight box of another, with bounds not below its own
-pub record AreOpenHalves (case : Case) (parent : OpenBox) (relay at : ℕ) (low high : OpenBox) : Type 0 where
+pub record AreOpenHalves (case : Case) (parent : OpenBox) (relay at : ℕ)
+    (low high : OpenBox) : Type 0 where
   pub tight : Box
   pub tightens : TightensTo case parent.ranges tight
   pub halves : AreHalves tight relay at low.ranges high.ranges

@@ -8,11 +8,13 @@ use Rattle.step_rules.specs.Usable.{CanBound, HasBound, leaf_weights}
 use Rattle.step_rules.specs.declared.open_box.OpenBox.{OpenBox}
 use Rattle.step_rules.specs.declared.tight_box.TightBox.{TightBox}
 
--- an open box of the case: the weights give it its bound, or that is 0 if a span is empty, and its parts stand for it
+-- an open box of the case: the weights give it its bound, or that is 0 if a span is empty, and its
+-- parts stand for it
 pub record IsOpenBox (case : Case) (box : OpenBox) : Type 0 where
   pub fits : FitsBox case box.ranges
   pub weights : CanBound case (leaf_weights box.weights)
-  pub bound : HasNoEmptySpan box.ranges → HasBound case box.ranges (leaf_weights box.weights) box.bound
+  pub bound : HasNoEmptySpan box.ranges
+      → HasBound case box.ranges (leaf_weights box.weights) box.bound
   pub none : HasEmptySpan box.ranges → box.bound ≡ 0
   pub parts : IfSome box.parts (λ parts. StandFor case box.ranges parts)
 

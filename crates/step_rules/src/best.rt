@@ -3,7 +3,7 @@ ghost use Rattle.std.specs.Prelude.{◌≡◌, ◌≤◌, ℕ, List, [], ◌∷�
 ghost use Rattle.std.specs.Option.{option_map};
 ghost use Rattle.margin_rows.specs.Box.{FitsBox, HasNoEmptySpan};
 ghost use Rattle.box_bound.specs.LowerBound.{IsPlainBound};
-ghost use Rattle.step_rules.specs.Rules.{candidates};
+ghost use Rattle.step_rules.specs.Splits.{candidates};
 ghost use Rattle.step_rules.specs.Usable.{AreBestOf, CanBound, IsBoundBelow, LeafWeights, leaf_weights};
 
 use crate::weights::{bound_by, copy, plain_weights};

@@ -3,7 +3,7 @@ ghost use Rattle.std.specs.Prelude.{◌≡◌, ◌<◌, length};
 ghost use Rattle.margin_rows.specs.Box.{FitsBox, HasNoEmptySpan};
 ghost use Rattle.margin_rows.specs.Halves.{CanSplit};
 ghost use Rattle.margin_rows.specs.Lowest.{HasOnePickup};
-ghost use Rattle.step_rules.specs.Rules.{IsFirstSplit, IsSplitPlace};
+ghost use Rattle.step_rules.specs.Splits.{IsFirstSplit, IsSplitPlace};
 ghost use Rattle.step_rules.specs.Handlings.{advised_of};
 
 use advice::Advice;

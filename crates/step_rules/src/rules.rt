@@ -8,7 +8,9 @@ ghost use Rattle.step_rules.specs.Handlings.{IsDivided, LeavesHalves, advised_of
 ghost use Rattle.step_rules.specs.Issuing.{IsGapOf, IsPriced, costs, latest, settings_of};
 ghost use Rattle.step_rules.specs.Offers.{PlainReaches};
 ghost use Rattle.step_rules.specs.OpenBoxes.{IsOpenBox, IsTightBox};
-ghost use Rattle.step_rules.specs.Rules.{ClosesBy, Handled, IsAsked, IsUsedAdvice, TightensTo, candidates};
+ghost use Rattle.step_rules.specs.Premises.{ClosesBy, IsAsked, TightensTo};
+ghost use Rattle.step_rules.specs.Rules.{Handled};
+ghost use Rattle.step_rules.specs.Splits.{IsUsedAdvice, candidates};
 ghost use Rattle.step_rules.specs.Usable.{AreBestOf, CanBound, IsBoundBelow, LeafWeights, leaf_weights};
 ghost use Rattle.step_rules.specs.declared.open_box.OpenBox.{OpenBox};
 

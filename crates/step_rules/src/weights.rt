@@ -2,7 +2,7 @@
 ghost use Rattle.std.specs.Prelude.{◌≡◌, ◌-◌, ◌^◌, ◌<◌, ◌≤◌, ◌↔◌, map, All, IfOk, IsTrue};
 ghost use Rattle.std.specs.List.Sorted.{IsStrictlyIncreasing};
 ghost use Rattle.margin_rows.specs.Box.{FitsBox, HasNoEmptySpan};
-ghost use Rattle.step_rules.specs.Rules.{IsVoidBy};
+ghost use Rattle.step_rules.specs.Premises.{IsVoidBy};
 ghost use Rattle.step_rules.specs.Usable.{AreUsable, CanBound, HasBound, leaf_weights, plain_weights};
 
 use box_bound::{bound_of, value};

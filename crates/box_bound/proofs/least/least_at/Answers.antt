@@ -2,7 +2,7 @@ use Rattle.std.proofs.Common.{rules}
 use Rattle.std.proofs.lemmas.Int.{to_z-of_z}
 use mir.Syntax.{w128}
 use mir.Val.{SFits}
-use Rattle.box_bound.specs.DualValue.{dials_of}
+use Rattle.box_bound.specs.RelayParts.{dials_of}
 use Rattle.box_bound.specs.Standing.{IsSmall}
 use Rattle.box_bound.proofs.Leasts.{IsLesser, lesser_read, picked_small, at_dial_small, part_read, least_of_ends}
 use Rattle.box_bound.proofs.Spans.{dials_read, low_is_step, high_is_step}

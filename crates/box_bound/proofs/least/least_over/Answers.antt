@@ -5,7 +5,7 @@ use mir.Syntax.{w128}
 use mir.Val.{SFits}
 use Rattle.margin_rows.specs.FirstBox.{IsFirstStep}
 use Rattle.margin_rows.proofs.Spanned.{first_step_small}
-use Rattle.box_bound.specs.DualValue.{pickups_of, dials_of, IsLeastPart}
+use Rattle.box_bound.specs.RelayParts.{IsLeastPart, dials_of, pickups_of}
 use Rattle.box_bound.proofs.Leasts.{lesser_read, picked_small, least_more, least_whole}
 use Rattle.box_bound.proofs.Spans.{IsSpanRead, pickups_read, low_is_step, high_is_step}
 use Rattle.box_bound.proofs.least.least_over.Goals as goal

@@ -1,4 +1,4 @@
-use Rattle.box_bound.specs.DualValue.{pickups_of, dials_of, IsLeastPart}
+use Rattle.box_bound.specs.RelayParts.{IsLeastPart, dials_of, pickups_of}
 use Rattle.box_bound.specs.Standing.{IsSmall}
 use Rattle.box_bound.proofs.least.least_over.Given as goal
 

@@ -3,7 +3,7 @@ use Rattle.std.proofs.lemmas.Int.{to_z-of_z}
 use mir.Syntax.{w128}
 use mir.Val.{SFits}
 use Rattle.coord_model.specs.declared.weights.Weight.{Weight}
-use Rattle.box_bound.specs.DualValue.{pickups_of, dials_of, IsLeastPart}
+use Rattle.box_bound.specs.RelayParts.{IsLeastPart, dials_of, pickups_of}
 use Rattle.box_bound.proofs.Counting.{fit_touching, least_of_all}
 use Rattle.box_bound.proofs.least.least_part.Goals as goal
 

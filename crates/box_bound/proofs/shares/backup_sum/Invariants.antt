@@ -1,6 +1,6 @@
 use Rattle.std.proofs.Common.{◌≡◌, ◌≤◌, ◌*◌, ◌^◌, take}
 use Rattle.std.specs.List.{sum_by}
-use Rattle.box_bound.specs.DualValue.{backup_part}
+use Rattle.box_bound.specs.RelayParts.{backup_part}
 use Rattle.box_bound.proofs.shares.backup_sum.Given as goal
 
 abbrev pub invariant-loop-weight : goal.invariant-loop-weight

@@ -1,6 +1,6 @@
 use Rattle.std.proofs.Common.{◌≡◌, ◌≤◌, ◌*◌, ◌^◌, take}
 use Rattle.std.specs.List.{sum_by}
-use Rattle.box_bound.specs.DualValue.{primary_part}
+use Rattle.box_bound.specs.RelayParts.{primary_part}
 use Rattle.box_bound.proofs.shares.primary_sum.Given as goal
 
 abbrev pub invariant-loop-weight : goal.invariant-loop-weight

@@ -5,7 +5,7 @@ use Rattle.margin_rows.specs.Box.{Box}
 use Rattle.margin_rows.proofs.Spanned.{first_box_fits}
 use Rattle.coord_model.specs.Choice.{choice_data}
 use Rattle.coord_model.specs.declared.choice.Ending.TheVariants.{Hairline}
-use Rattle.branch_bound.specs.Outcome.{IsFirstHair}
+use Rattle.branch_bound.specs.HairLeaf.{IsFirstHair}
 use Rattle.cert_tree.specs.Endings.{has_hair}
 use Rattle.cert_tree.specs.Holding.{Holds}
 use Rattle.cert_tree.specs.NodeRules.{IsRight}

@@ -4,7 +4,8 @@ use Rattle.std.proofs.lemmas.Result.{IfOk-weaker}
 use Rattle.coord_model.specs.Choice.{Settings}
 use Rattle.step_rules.specs.Handlings.{IsDivided, advised_of, tree_of}
 use Rattle.step_rules.specs.Issuing.{costs}
-use Rattle.step_rules.specs.Rules.{Handled, IsAsked, closed_later, voided, weighed}
+use Rattle.step_rules.specs.Premises.{IsAsked}
+use Rattle.step_rules.specs.Rules.{Handled, closed_later, voided, weighed}
 use Rattle.step_rules.specs.Usable.{leaf_weights}
 use Rattle.step_rules.specs.declared.handling.Handling.{Handling}
 use Rattle.step_rules.proofs.RuleLaws.{failed, plain_leaf, split_handled, undecided}
