@@ -7,3 +7,5 @@ pub mod WalkLaws
 pub mod WalkedTrees
 pub mod TreeTaking
 pub mod BoxCounts
+pub mod TightOrEmptied
+pub mod HoldsOrFails

@@ -19,23 +19,23 @@ use Rattle.cert_tree.specs.declared.kind.NodeKind.{NodeKind}
 use Rattle.cert_tree.proofs.WalkLaws.{counts_parts, lower_none, lower_parts, refused_split, taken_at, walked_split}
 
 -- a leaf that is right holds
-empty_holds : (case : Case) (box : Box) (given : Option ℕ) → IsRightWith case box (root empty) given → Holds case box empty given
+pub empty_holds : (case : Case) (box : Box) (given : Option ℕ) → IsRightWith case box (root empty) given → Holds case box empty given
 empty_holds case box given is = subst (λ (g : Option ℕ). Holds case box empty g) (sym is.gives) (at_empty is.right)
 
-void_holds : (case : Case) (box : Box) (weights : List Weight) (given : Option ℕ) → IsRightWith case box (root (void weights)) given → Holds case box (void weights) given
+pub void_holds : (case : Case) (box : Box) (weights : List Weight) (given : Option ℕ) → IsRightWith case box (root (void weights)) given → Holds case box (void weights) given
 void_holds case box weights given is = subst (λ (g : Option ℕ). Holds case box (void weights) g) (sym is.gives) (at_void is.right)
 
-bound_holds : (case : Case) (box : Box) (lambda : ℕ) (weights : List Weight) (given : Option ℕ) → IsRightWith case box (root (bound lambda weights)) given → Holds case box (bound lambda weights) given
+pub bound_holds : (case : Case) (box : Box) (lambda : ℕ) (weights : List Weight) (given : Option ℕ) → IsRightWith case box (root (bound lambda weights)) given → Holds case box (bound lambda weights) given
 bound_holds case box lambda weights given is =
     let g = is.gives in
     subst (λ (o : Option ℕ). Holds case box (bound lambda weights) o) (sym (g.4 ∙ ap Some g.3.is)) (at_bound is.right g.2 g.3.dual)
 
-hair_holds : (case : Case) (box : Box) (row : ℕ) (given : Option ℕ) → IsRightWith case box (root (hair row)) given → Holds case box (hair row) given
+pub hair_holds : (case : Case) (box : Box) (row : ℕ) (given : Option ℕ) → IsRightWith case box (root (hair row)) given → Holds case box (hair row) given
 hair_holds case box row given is =
     let g = is.gives in
     subst (λ (o : Option ℕ). Holds case box (hair row) o) (sym g.4) (at_hair is.right g.2 g.3)
 
-open_holds : (case : Case) (box : Box) (lambda : ℕ) (weights : List Weight) (given : Option ℕ) → IsRightWith case box (root (open_leaf lambda weights)) given → Holds case box (open_leaf lambda weights) given
+pub open_holds : (case : Case) (box : Box) (lambda : ℕ) (weights : List Weight) (given : Option ℕ) → IsRightWith case box (root (open_leaf lambda weights)) given → Holds case box (open_leaf lambda weights) given
 open_holds case box lambda weights given is =
     let g = is.gives in
     subst (λ (o : Option ℕ). Holds case box (open_leaf lambda weights) o) (sym (g.2 ∙ ap Some g.1.is)) (at_open_leaf is.right g.1.dual)

@@ -6,7 +6,7 @@ ghost use Rattle.margin_rows.specs.Box.{FitsBox};
 ghost use Rattle.margin_rows.specs.Case.{FitsCase};
 ghost use Rattle.cert_tree.specs.Holding.{Fails, Holds};
 ghost use Rattle.cert_tree.specs.Proving.{IsProved};
-ghost use Rattle.cert_tree.specs.Verdict.{IsTold, GivesBound, GivesFault};
+ghost use Rattle.cert_tree.specs.Verdict.{IsTold, GivesBound, GivesFault, HoldsOrFails, NeverBoth};
 ghost use Rattle.cert_tree.specs.Walks.{Refuses, Walked};
 ghost use Rattle.cert_tree.specs.declared.kind.NodeKind.{NodeKind as NodeKindData};
 
@@ -62,6 +62,13 @@ pub fn holds_at(
         }),
     }
 }
+
+/// Each tree holds at a box, with some bound, or fails there at some node, and none does both. By the definitions of
+/// the two alone; no walk is spoken of.
+pub fn each_tree_holds_or_fails()
+    ensures either { HoldsOrFails }
+    ensures never_both { NeverBoth }
+{}
 
 /// Takes the nodes of a tree in pre-order, the first of them at the first due box.
 fn take_tree(walk: &mut TreeWalk, inst: &Instance, node: &Node) -> Result<(), NodeKind>

@@ -11,7 +11,7 @@ mod room;
 mod tree;
 mod walk;
 
-pub use holds::{TreeRefusal, holds_at};
+pub use holds::{TreeRefusal, each_tree_holds_or_fails, holds_at};
 pub use kind::NodeKind;
 pub use tree::{boxes, ending_of};
 pub use walk::TreeWalk;
