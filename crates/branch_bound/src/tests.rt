@@ -4,7 +4,7 @@ ghost use Rattle.std.specs.Prelude.{◌≤◌};
 use crate::{Outcome, SearchFault, Solver, search};
 use advice::{Advice, Adviser, NullAdviser};
 use coord_model::{Ending, NoMemory, Weight, Weights};
-use hand_studies::{parallel_lines, tied_lines, two_pickups};
+use hand_studies::{capped_line, parallel_lines, relay_chain, tied_lines, two_pickups};
 use margin_rows::{BuildFault, Instance, Ranges};
 use std::alloc::Global;
 
@@ -89,6 +89,31 @@ fn the_lower_pickup_is_the_better_one(rt: HostRuntime) -> Result<(), BuildFault>
         return Err(BuildFault::NoMemory);
     };
     assert!(rt; all == (Ending::Closed, Some(262_500), Some(262_500), 3));
+    Ok(())
+}
+
+// At 20 times pickup the relay takes 13.5/19 s at dial 1, whichever its pickup: 35,526.3 us at 0.050.
+#[test]
+fn capped_multiples_close_one_box(rt: HostRuntime) -> Result<(), BuildFault> {
+    let alloc = rt.alloc();
+    let inst = capped_line(alloc)?;
+    let Ok(all) = came_to(alloc, &inst, BUDGET) else {
+        return Err(BuildFault::NoMemory);
+    };
+    assert!(rt; all == (Ending::Closed, Some(35_527), Some(35_526), 1));
+    Ok(())
+}
+
+// The second relay has to take 1,530 ms as backup. So it takes 382.5 ms or more as primary, the first one 412.5 ms as
+// backup, and 103 ms as primary, where it may take 81 ms. No row alone shows that before the first relay has one pickup.
+#[test]
+fn a_chain_that_no_settings_keep_is_split_once(rt: HostRuntime) -> Result<(), BuildFault> {
+    let alloc = rt.alloc();
+    let inst = relay_chain(alloc)?;
+    let Ok(all) = came_to(alloc, &inst, BUDGET) else {
+        return Err(BuildFault::NoMemory);
+    };
+    assert!(rt; all == (Ending::NoSettings, None, None, 3));
     Ok(())
 }
 

@@ -2,13 +2,18 @@
 //! seconds at the multiple of pickup M and dial 1. No program uses them.
 #![tactic(auto)]
 
+mod chain;
+mod single;
+
 ghost use Rattle.std.specs.Prelude.{◌≡◌, ◌<◌, ◌≤◌, All, IfOk, length};
 ghost use Rattle.coord_model.specs.Limits.{FitsStudy};
 ghost use Rattle.coord_model.specs.PartLimits.{IsBetween};
 ghost use Rattle.coord_model.specs.StudyData.{study_data, entries_of};
 
+pub use chain::relay_chain;
 use coord_model::{Current, Currents, CurveName, Fault, Line, Name, NoMemory, Relay, Study};
 use margin_rows::{BuildFault, Instance, build};
+pub use single::capped_line;
 use std::alloc::Global;
 
 fn name() -> Name {

@@ -27,6 +27,3 @@ mod worst;
 
 pub use advice::{Advice, Adviser, NullAdviser};
 pub use advising::LpAdviser;
-
-#[cfg(test)]
-mod tests;

@@ -7,7 +7,7 @@ ghost use Rattle.step_rules.specs.OpenBoxes.{IsOpenBox};
 use crate::{Handling, Issued, OpenBox, handle};
 use advice::{Advice, Adviser, NullAdviser};
 use coord_model::{NoMemory, Weight, Weights};
-use hand_studies::{Limits, parallel_lines, tied_lines, two_lines, two_pickups};
+use hand_studies::{Limits, parallel_lines, relay_chain, tied_lines, two_lines, two_pickups};
 use margin_rows::{BuildFault, Instance, Ranges, least_gap};
 use std::alloc::Global;
 
@@ -309,6 +309,57 @@ fn weights_of_the_box_before_bound_its_halves(rt: HostRuntime) -> Result<(), Bui
         high: (4, 253_687),
     };
     assert!(rt; step == Some(Step { ending, cost: None }));
+    Ok(())
+}
+
+/// Lambda 0, and weights by which no dials keep the rows of the chain.
+const VOIDING: Told = Told {
+    lambda: 0,
+    rows: &[
+        FIRST_ROW,
+        Weight { row: 1, weight: 4 },
+        Weight { row: 2, weight: 16 },
+    ],
+    relay: 0,
+    at: 65_535,
+    pickups: &[0, 0, 0],
+};
+
+/// Too little of the last row.
+const SHORT: Told = Told {
+    rows: &[
+        FIRST_ROW,
+        Weight { row: 1, weight: 4 },
+        Weight { row: 2, weight: 12 },
+    ],
+    ..VOIDING
+};
+
+// The dials are from 0.016 to 0.054, from 0.114, and 1.000. With the weights 1, 4 and 16 the rows ask for 30 + 120 - 1,296
+// ms. The last relay adds its 1,500 ms, the second at least 0, which is 4 * 3.375 - 13.5 s at its high pickup, and so does
+// the first with 16 * 3.375 - 4 * 13.5 s: 354 ms are left. With 12 in place of 16 the rows ask for 30 + 120 - 972 ms, and
+// the first relay adds 0.054 * (12 * 3.375 - 4 * 13.5) s: 51 ms are missing. The halves then cost 24 or 54 ms more than
+// 171 + 1,500 ms.
+#[test]
+fn weights_that_no_dials_meet_make_a_box_void(rt: HostRuntime) -> Result<(), BuildFault> {
+    let alloc = rt.alloc();
+    let inst = relay_chain(alloc)?;
+    let void = Step {
+        ending: Ending::Void,
+        cost: None,
+    };
+    let mut told = VOIDING;
+    assert!(rt; first_step(alloc, &inst, &mut told)? == void);
+    told.lambda = 1;
+    assert!(rt; first_step(alloc, &inst, &mut told)? == void);
+    let mut short = SHORT;
+    let ending = Ending::Split {
+        relay: 0,
+        at: 0,
+        low: (1, 1_695_000),
+        high: (1, 1_725_000),
+    };
+    assert!(rt; first_step(alloc, &inst, &mut short)? == Step { ending, cost: None });
     Ok(())
 }
 

@@ -1,4 +1,5 @@
 //! What the advice of the linear programme is worth: without it these studies need more boxes.
+use super::endings::ALONE;
 use super::searches::finds;
 use super::*;
 use lp_advice::{LpAdviser, NullAdviser};
@@ -70,6 +71,127 @@ fn eight_copies_close_in_one_box_by_advice_alone(rt: HostRuntime) -> Result<(), 
     finds(&rt, &mut LpAdviser::new(), files, None, 1, advised)?;
     let alone = (4, "budget spent cost 2592000 bound 672000 boxes 1\n");
     finds(&rt, &mut NullAdviser, files, None, 1, alone)?;
+    Ok(())
+}
+
+/// Three relays in a chain, with two pickups for the first two. The first may take 81 ms, the last takes 1,500 ms.
+const CHAIN: &str = r#"format = 2
+[study]
+cti_ms = 30
+[[line]]
+name = "AB"
+from = "A"
+to = "B"
+[[line]]
+name = "BC"
+from = "B"
+to = "C"
+[[line]]
+name = "CD"
+from = "C"
+to = "D"
+[[relay]]
+name = "R1"
+line = "AB"
+bus = "A"
+curve = "iec-b"
+ct_primary = 100
+ct_secondary = 1
+plug_first = 100
+plug_step = 100
+plug_count = 2
+dial_first = 2
+dial_step = 2
+dial_count = 500
+most_ms = 81
+[[relay]]
+name = "R2"
+line = "BC"
+bus = "B"
+curve = "iec-b"
+ct_primary = 100
+ct_secondary = 1
+plug_first = 100
+plug_step = 100
+plug_count = 2
+dial_first = 2
+dial_step = 2
+dial_count = 500
+[[relay]]
+name = "R3"
+line = "CD"
+bus = "C"
+curve = "iec-b"
+ct_primary = 100
+ct_secondary = 1
+plug_first = 100
+dial_first = 1000
+[[fault]]
+name = "F1"
+line = "CD"
+[[fault]]
+name = "F2"
+line = "BC"
+[[fault]]
+name = "F3"
+line = "AB"
+"#;
+
+const CHAIN_CURRENTS: &str =
+    "fault,relay,amps\nF1,R3,1000\nF1,R2,400\nF2,R2,1000\nF2,R1,400\nF3,R1,1000\n";
+
+/// A study that advice ends in one box: the network with parts of it replaced, the table, how it ends, and how it ends
+/// within so many boxes without advice.
+type OneBox = (
+    (&'static str, &'static [(&'static str, &'static str)]),
+    &'static str,
+    (u8, &'static str),
+    (u32, u8, &'static str),
+);
+
+const ONE_BOX: [OneBox; 2] = [
+    // R2 takes 1,530 ms or more as backup, and a quarter of that or more as primary, 382.5 ms; R1 takes 412.5 ms or more
+    // as backup, and a quarter of that or more as primary. The weights 1, 4 and 16 of the rows show it at once.
+    (
+        (CHAIN, &[]),
+        CHAIN_CURRENTS,
+        (3, "no settings boxes 1\n"),
+        (20_000, 3, "no settings boxes 3\n"),
+    ),
+    // at 10 times pickup the dial is 0.067, at 5 times 0.030: 0.067 * 1.5 s or 0.030 * 3.375 s, where 0.030 * 1.5 s is
+    // the plain bound; the weight 1 of the least time gives the bound 100 ms
+    (
+        (
+            ALONE,
+            &[
+                ("format = 1", "format = 2"),
+                (
+                    "dial_first = 50\n",
+                    "plug_step = 100\nplug_count = 2\ndial_first = 1\ndial_count = 100\nleast_ms = 100\n",
+                ),
+            ],
+        ),
+        "fault,relay,amps\nF1,R1,1000\n",
+        (0, "closed cost 100500 bound 100000 boxes 1\n"),
+        (1, 4, "budget spent cost 100500 bound 45000 boxes 1\n"),
+    ),
+];
+
+#[test]
+fn the_rows_of_limits_have_weights(rt: HostRuntime) -> Result<(), test::Fail> {
+    for ((network, changes), currents, advised, (budget, status, alone)) in &ONE_BOX {
+        let network = edited(&rt, network, changes)?;
+        let files = (network.as_str(), *currents);
+        finds(&rt, &mut LpAdviser::new(), files, None, 1, *advised)?;
+        finds(
+            &rt,
+            &mut NullAdviser,
+            files,
+            None,
+            *budget,
+            (*status, *alone),
+        )?;
+    }
     Ok(())
 }
 
@@ -149,8 +271,19 @@ fn printed(
     Ok(out)
 }
 
-// 1,712,330 is the least cost by two general solvers and by dynamic programming; the boxes without advice are several
-// hundred.
+// 729 pickup choices need at most 1,457 boxes. A prototype of the adviser in another language needed 63; with its weights
+// alone and the first split that there is, it takes more.
+#[test]
+fn a_ring_closes_within_its_boxes(rt: HostRuntime) -> Result<(), test::Fail> {
+    let network = ring(&rt)?;
+    let files = (network.as_str(), RING_CURRENTS);
+    let closed = (0, "closed cost 1712330 bound 171");
+    finds(&rt, &mut LpAdviser::new(), files, None, 63, closed)?;
+    finds(&rt, &mut NullAdviser, files, None, 1_457, closed)?;
+    Ok(())
+}
+
+// 1,712,330 is the least cost by two general solvers and by dynamic programming.
 #[test]
 fn a_ring_closes_at_its_least_cost_and_its_certificate_is_accepted(
     rt: HostRuntime,
