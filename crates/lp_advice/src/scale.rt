@@ -29,6 +29,9 @@ const CONSTANT_ONE: i128 = 1 << 32;
 /// The picoseconds of a microsecond.
 const MICROSECOND: i128 = 1_000_000;
 
+/// The picoseconds of a millisecond, the least that a row asks for.
+const MILLISECOND: u64 = 1_000_000_000;
+
 impl Scale {
     /// The scale of a study.
     pub fn of(inst: &Instance) -> Scale {
@@ -122,8 +125,9 @@ fn is_first(inst: &Instance, relay: u16, step: u16) -> bool
     }
 }
 
+/// The largest constant of a row, or a millisecond if there are no rows.
 fn largest_constant(inst: &Instance) -> u64 {
-    let mut most = 1;
+    let mut most = MILLISECOND;
     for row in 0..inst.rows().len() as u16 {
         most = most.max(inst.row_constant(row).unsigned_abs());
     }
