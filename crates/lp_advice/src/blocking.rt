@@ -53,12 +53,12 @@ fn earlier(a: Option<Block>, b: Option<Block>) -> Option<Block> {
     }
 }
 
-/// The block at a number that falls at a rate, if it falls.
+/// The block at a number that falls at a rate, if it falls. One that comes too late for a number comes last.
 fn falling(by: Blocker, number: i64, rate: i64) -> Result<Option<Block>, Stop> {
     if rate >= FALLS {
         return Ok(None);
     }
-    let after = over(number.max(0), sub(0, rate)?)?;
+    let after = over(number.max(0), sub(0, rate)?).unwrap_or(i64::MAX);
     Ok(Some(Block { by, after, rate }))
 }
 

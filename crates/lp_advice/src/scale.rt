@@ -3,6 +3,7 @@ ghost use Rattle.std.specs.Prelude.{IsTrue};
 ghost use Rattle.margin_rows.specs.FirstBox.{IsFirstStep};
 
 use crate::fixed::{ONE, Stop, fit};
+use coord_model::RowKind;
 use margin_rows::Instance;
 
 /// What a row asks of a relay: to be slow, or to be fast.
@@ -12,8 +13,8 @@ pub enum Role {
     Fast,
 }
 
-/// By which powers of two times and costs are divided: near the largest constant of a row, and near the largest sum of
-/// weights of a relay more. So the numbers of rows and columns are near 1.
+/// By which powers of two times and costs are divided: near the largest constant of a row that asks a relay to be slow,
+/// and near the largest sum of weights of a relay more. So the numbers of rows and columns are near 1.
 #[derive(Clone, Copy)]
 pub struct Scale {
     time_places: u32,
@@ -125,11 +126,15 @@ fn is_first(inst: &Instance, relay: u16, step: u16) -> bool
     }
 }
 
-/// The largest constant of a row, or a millisecond if there are no rows.
+/// The largest constant of a row that asks a relay to be slow, or a millisecond if there are none.
+///
+/// A greatest time that binds no relay may be far larger, and by its scale the intervals would lose their digits.
 fn largest_constant(inst: &Instance) -> u64 {
     let mut most = MILLISECOND;
     for row in 0..inst.rows().len() as u16 {
-        most = most.max(inst.row_constant(row).unsigned_abs());
+        if inst.row(row).kind != RowKind::Most {
+            most = most.max(inst.row_constant(row).unsigned_abs());
+        }
     }
     most
 }

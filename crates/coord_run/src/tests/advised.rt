@@ -196,7 +196,7 @@ fn the_rows_of_limits_have_weights(rt: HostRuntime) -> Result<(), test::Fail> {
 }
 
 /// Three buses in a ring.
-const RING: &str = r#"format = 1
+const RING: &str = r#"format = 2
 [study]
 cti_ms = 300
 [[line]]
@@ -238,8 +238,8 @@ M2,R3,2200\nM2,R4,2100\nM2,R1,850\nM2,R6,900
 M3,R5,2500\nM3,R6,1900\nM3,R3,950\nM3,R2,800
 ";
 
-/// The ring with its relays.
-fn ring(rt: &(impl AllocGlobal + Abort)) -> Result<String, AllocError> {
+/// The ring with its relays, which have this limit.
+fn ring(rt: &(impl AllocGlobal + Abort), limit: &str) -> Result<String, AllocError> {
     let mut text = String::from_str(rt.alloc(), RING)?;
     for names in &RING_RELAYS {
         for (key, name) in ["[[relay]]\nname", "line", "bus"].iter().zip(names) {
@@ -252,6 +252,7 @@ fn ring(rt: &(impl AllocGlobal + Abort)) -> Result<String, AllocError> {
             "curve = \"iec-a\"\nct_primary = 400\nct_secondary = 1\nplug_first = 50\nplug_step = 25\nplug_count = 3
 dial_first = 50\ndial_step = 10\ndial_count = 96\nload_amps = 150\n",
         )?;
+        text.push_str(limit)?;
     }
     Ok(text)
 }
@@ -275,11 +276,15 @@ fn printed(
 // alone and the first split that there is, it takes more.
 #[test]
 fn a_ring_closes_within_its_boxes(rt: HostRuntime) -> Result<(), test::Fail> {
-    let network = ring(&rt)?;
+    let network = ring(&rt, "")?;
     let files = (network.as_str(), RING_CURRENTS);
     let closed = (0, "closed cost 1712330 bound 171");
     finds(&rt, &mut LpAdviser::new(), files, None, 63, closed)?;
     finds(&rt, &mut NullAdviser, files, None, 1_457, closed)?;
+    // the greatest time binds no relay
+    let network = ring(&rt, "most_ms = 20000000\n")?;
+    let files = (network.as_str(), RING_CURRENTS);
+    finds(&rt, &mut LpAdviser::new(), files, None, 63, closed)?;
     Ok(())
 }
 
@@ -288,7 +293,7 @@ fn a_ring_closes_within_its_boxes(rt: HostRuntime) -> Result<(), test::Fail> {
 fn a_ring_closes_at_its_least_cost_and_its_certificate_is_accepted(
     rt: HostRuntime,
 ) -> Result<(), test::Fail> {
-    let network = ring(&rt)?;
+    let network = ring(&rt, "")?;
     let mut folder = folder_of(&rt, &[("n", network.as_str()), ("t", RING_CURRENTS)], None)?;
     let solved = printed(&rt, &mut folder, &SOLVE)?;
     assert!(rt; solved.bytes().starts_with(b"closed cost 1712330 bound 171"));
