@@ -3,7 +3,7 @@ ghost use Rattle.std.specs.Prelude.{◌≡◌, None, ◌≤◌, IfOk, length};
 ghost use Rattle.coord_io.specs.Refusals.{fail_of};
 
 use crate::counts::raise;
-use crate::inodes::{Inodes, inode_of};
+use crate::inodes::{Inode, Inodes, Started, inode_of};
 use crate::{Failed, Folder, ReadFail};
 use std::fs::{OpenFile, OpenOptions};
 use std::io::{ErrorKind, Read, Seek, SeekFrom, Write};
@@ -14,12 +14,13 @@ use std::{fs, io};
 /// The files of the disk, by path. It tells nothing of what they hold, and counts each error.
 ///
 /// The file that was read last stays open, so that its pieces are those of one file. A file that was read isn't started,
-/// whatever path leads to it: `start` fails and leaves it as it is.
+/// whatever path leads to it, nor is the one that was started last under another name: `start` fails and leaves it as it is.
 #[derive(Drop)]
 pub struct DiskFolder<'a, R: Files> {
     rt: &'a R,
     last: Option<Opened<R::File>>,
     read: Inodes,
+    started: Option<Started>,
     read_faults: u64,
     write_faults: u64,
 }
@@ -48,6 +49,7 @@ impl<'a, R: Files> DiskFolder<'a, R> {
             rt,
             last: None,
             read: Inodes::new(),
+            started: None,
             read_faults: 0,
             write_faults: 0,
         }
@@ -69,7 +71,7 @@ impl<'a, R: Files + AllocGlobal> Folder for DiskFolder<'a, R> {
 
     fn start(&mut self, name: &str) -> Result<(), Failed> {
         self.last = None;
-        match start_unread(self.rt, &self.read, name) {
+        match start_new(self.rt, &self.read, &mut self.started, name) {
             Ok(()) => Ok(()),
             Err(_error) => {
                 raise(&mut self.write_faults);
@@ -134,20 +136,35 @@ fn read_once<F: Read + Seek>(file: &mut F, place: u64, buf: &mut [u8]) -> io::Re
     file.read(buf)
 }
 
-/// Makes the file, empty, or empties it, unless it was read.
+/// Makes the file, empty, or empties it, unless it was read, or started last under another name.
 ///
 /// It is opened as it is, and emptied only once it is known which file it is.
-fn start_unread(rt: &impl Files, read: &Inodes, name: &str) -> io::Result<()> {
+fn start_new(
+    rt: &(impl Files + AllocGlobal),
+    read: &Inodes,
+    started: &mut Option<Started>,
+    name: &str,
+) -> io::Result<()> {
     let file = OpenOptions::new().write(true).create(true).open(rt, name)?;
     let metadata = file.metadata()?;
-    if read.may_have(inode_of(&metadata)) {
+    let inode = inode_of(&metadata);
+    if read.may_have(inode) || is_under_another(started, inode, name) {
         return Err(io::Error::from(ErrorKind::AlreadyExists));
     }
+    *started = Some(Started::new(rt.alloc(), inode, name));
     // What has no length, as a terminal, can't be cut.
     if metadata.len() == 0 {
         return Ok(());
     }
     file.set_len(0)
+}
+
+/// Whether the file was started last, and may have been under another name than this.
+fn is_under_another(started: &Option<Started>, inode: Inode, name: &str) -> bool {
+    match started {
+        Some(last) => last.is_under_another(inode, name),
+        None => false,
+    }
 }
 
 /// Writes once at the end of a file that is there.

@@ -1,4 +1,5 @@
-//! Which files of the disk were read, whatever path leads to them.
+//! Which files of the disk were read, and which was started, whatever path leads to them.
+use std::alloc::Global;
 use std::fs::Metadata;
 use std::os::unix::fs::MetadataExt;
 
@@ -48,6 +49,32 @@ impl Inodes {
     /// Whether the file may be one that was read.
     pub fn may_have(&self, inode: Inode) -> bool {
         self.more || is_in(&self.known, inode)
+    }
+}
+
+/// A file that was started, and its name, if there was memory for it.
+///
+/// That it is known again under another name is shown by tests alone.
+#[derive(Drop)]
+pub struct Started {
+    inode: Inode,
+    name: Option<String>,
+}
+
+impl Started {
+    /// The file was started under that name.
+    pub fn new(alloc: Global, inode: Inode, name: &str) -> Started {
+        let name = String::from_str(alloc, name).ok();
+        Started { inode, name }
+    }
+
+    /// Whether it is that file, and may have been started under another name than this.
+    pub fn is_under_another(&self, inode: Inode, name: &str) -> bool {
+        let same = match &self.name {
+            Some(own) => own.as_bytes() == name.as_bytes(),
+            None => false,
+        };
+        self.inode == inode && !same
     }
 }
 

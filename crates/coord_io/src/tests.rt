@@ -230,8 +230,7 @@ fn a_file_of_the_disk_that_was_read_is_not_started(rt: HostRuntime) -> Result<()
     put_whole(&mut folder, "coord_io_network", b"abcdef")?;
     fs::hard_link(&rt, "coord_io_network", "coord_io_hard")?;
     symlink(&rt, "coord_io_network", "coord_io_soft")?;
-    put_whole(&mut folder, "coord_io_soft", b"abc")?;
-    assert!(rt; matches!(folder.read_at("coord_io_network", 0, &mut buf), Ok(3)));
+    assert!(rt; matches!(folder.read_at("coord_io_network", 0, &mut buf), Ok(6)));
 
     for name in &[
         "coord_io_network",
@@ -241,7 +240,7 @@ fn a_file_of_the_disk_that_was_read_is_not_started(rt: HostRuntime) -> Result<()
     ] {
         assert!(rt; folder.start(name).is_err(), "{name}");
     }
-    assert!(rt; matches!(folder.read_at("coord_io_hard", 0, &mut buf), Ok(3)));
+    assert!(rt; matches!(folder.read_at("coord_io_hard", 0, &mut buf), Ok(6)));
     assert!(rt; folder.start("coord_io_sheet").is_ok());
     for name in &[
         "coord_io_soft",
@@ -249,6 +248,28 @@ fn a_file_of_the_disk_that_was_read_is_not_started(rt: HostRuntime) -> Result<()
         "coord_io_network",
         "coord_io_sheet",
     ] {
+        fs::remove_file(&rt, name)?;
+    }
+    Ok(())
+}
+
+#[test]
+fn a_file_of_the_disk_is_not_started_under_two_names(rt: HostRuntime) -> Result<(), test::Fail> {
+    let mut folder = DiskFolder::new(&rt);
+    let mut buf = [0; 8];
+    put_whole(&mut folder, "coord_io_cert", b"abcdef")?;
+    fs::hard_link(&rt, "coord_io_cert", "coord_io_cert_hard")?;
+    symlink(&rt, "coord_io_cert", "coord_io_cert_soft")?;
+    for name in &[
+        "./coord_io_cert",
+        "coord_io_cert_hard",
+        "coord_io_cert_soft",
+    ] {
+        assert!(rt; folder.start(name).is_err(), "{name}");
+    }
+    put_whole(&mut folder, "coord_io_cert", b"abc")?;
+    assert!(rt; matches!(folder.read_at("coord_io_cert_soft", 0, &mut buf), Ok(3)));
+    for name in &["coord_io_cert_soft", "coord_io_cert_hard", "coord_io_cert"] {
         fs::remove_file(&rt, name)?;
     }
     Ok(())
