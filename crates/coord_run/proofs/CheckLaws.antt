@@ -21,7 +21,7 @@ use Rattle.coord_run.specs.SolveWords.{FileNames}
 use Rattle.coord_run.specs.declared.refusal.File.TheVariants as file
 use Rattle.coord_run.specs.declared.refusal.Refusal.{Refusal}
 use Rattle.coord_run.specs.declared.refusal.Stop.{Stop}
-use Rattle.coord_run.proofs.ReadingLaws.{absent_of, file_last, stops_as, told_first, told_last}
+use Rattle.coord_run.proofs.ReadingLaws.{absent_of, file_last, of_case, stops_as, told_last}
 use Rattle.margin_rows.specs.Case.{Case, rows_in}
 
 -- what holds only of printed settings and a printed cost
@@ -90,23 +90,18 @@ cert_last before between after name case refusal first (inr faulty) =
 
 module _ (names : FileNames) (before between after : FolderState) (case : Case) (first : IsReadAlone before between) (later : IsReadAlone between after) (few_rows : length (rows_in case) ≤ 4096)
     (read : Told before between (λ m. AreInputs m names.network names.currents case.study case.currents)) where
-  -- a fact about the case that was read, after the reading of the certificate
-  of_case : (P : Case → Type 0) → P case → ReadsCase before after names.network names.currents P
-  of_case P holds = (
-    case,
-    told_first before between after (λ m. AreInputs m names.network names.currents case.study case.currents) read later.stay,
-    (few_rows, holds),
-  )
+  here : (P : Case → Type 0) → P case → ReadsCase before after names.network names.currents P
+  here P = of_case before between after names.network names.currents case P later few_rows read
 
   -- a refusal of the certificate, after the reading of the two files
   pub third_read : (stop : Stop) → StopsFor stop (CertCause between after names.cert case) → StopsFor stop (CheckCause names before after)
   third_read stop = stops_as stop _ _ (λ refusal cause.
-      inr (of_case (λ case. CertCause before after names.cert case refusal) (cert_last before between after names.cert case refusal first cause)))
+      inr (here (λ case. CertCause before after names.cert case refusal) (cert_last before between after names.cert case refusal first cause)))
 
   -- the report on a certificate that is accepted
   pub accepted_as : (found : Claim) (text : List ℕ) → AnswersWhole case names.cert between after (Ok found) → BoundsAll case found.bound → text ≡ accepted_text found
       → ReadsCase before after names.network names.currents (λ case. IsCheckOf before after names.cert case text)
-  accepted_as found text accepted below_all is = of_case (λ case. IsCheckOf before after names.cert case text) (record {
+  accepted_as found text accepted below_all is = here (λ case. IsCheckOf before after names.cert case text) (record {
     claim = found;
     accepted = answers_last before between after names.cert case (Ok found) first accepted;
     below_all = below_all;

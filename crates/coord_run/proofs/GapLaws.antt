@@ -9,7 +9,7 @@ use Rattle.margin_rows.specs.Case.{Case, FitsCase}
 use Rattle.margin_rows.specs.Gap.{IsLeastGap}
 
 -- a case has one least gap
-one_least : (case : Case) (a b : ℕ) → IsLeastGap case a → IsLeastGap case b → a ≡ b
+pub one_least : (case : Case) (a b : ℕ) → IsLeastGap case a → IsLeastGap case b → a ≡ b
 one_least case a b x y = x.2 ∙ ap (λ (sum : ℕ). div_ceil sum 1000000 + 1) (sum_is_one case x.0 y.0 x.1 y.1) ∙ sym y.2
 
 -- only a gap that is given is below the least gap

@@ -1,3 +1,4 @@
+pub mod AnswerLaws
 pub mod CertLaws
 pub mod CertNodes
 pub mod CheckLaws
@@ -15,7 +16,9 @@ pub mod NumberLaws
 pub mod OptionWalk
 pub mod OutcomeLaws
 pub mod ReadingLaws
+pub mod RightCerts
 pub mod RowLaws
+pub mod SearchedLaws
 pub mod SettingsLaws
 pub mod SolveLaws
 pub mod UseEnd

@@ -8,29 +8,24 @@ use Rattle.coord_run.specs.Settings.{FitFirstBox, GivesSettings, SettingsCause}
 use Rattle.coord_run.specs.Stops.{StopsFor}
 use Rattle.coord_run.specs.SolveWords.{FileNames}
 use Rattle.coord_run.specs.declared.refusal.Stop.{Stop}
-use Rattle.coord_run.proofs.ReadingLaws.{stops_as, told_first, told_last}
+use Rattle.coord_run.proofs.ReadingLaws.{of_case, stops_as, told_last}
 use Rattle.coord_run.proofs.SettingsLaws.{settings_last}
 use Rattle.margin_rows.specs.Case.{Case, rows_in}
 
 module _ (names : FileNames) (before between after : FolderState) (case : Case) (first : IsReadAlone before between) (later : IsReadAlone between after) (few_rows : length (rows_in case) ≤ 4096)
     (read : Told before between (λ m. AreInputs m names.network names.currents case.study case.currents)) where
-  -- a fact about the case that was read, after the reading of the sheet
-  of_case : (P : Case → Type 0) → P case → ReadsCase before after names.network names.currents P
-  of_case P holds = (
-    case,
-    told_first before between after (λ m. AreInputs m names.network names.currents case.study case.currents) read later.stay,
-    (few_rows, holds),
-  )
+  here : (P : Case → Type 0) → P case → ReadsCase before after names.network names.currents P
+  here P = of_case before between after names.network names.currents case P later few_rows read
 
   -- a refusal about the sheet, after the reading of the two files
   pub third_read : (stop : Stop) → StopsFor stop (SettingsCause between after names.sheet case) → StopsFor stop (MarginsCause names before after)
   third_read stop = stops_as stop _ _ (λ refusal cause.
-      inr (of_case (λ case. SettingsCause before after names.sheet case refusal) (settings_last before between after names.sheet case refusal first cause)))
+      inr (here (λ case. SettingsCause before after names.sheet case refusal) (settings_last before between after names.sheet case refusal first cause)))
 
   -- the report on the settings of the sheet
   pub reported_on : (settings : Option Settings) (text : List ℕ) → Told between after (λ m. GivesSettings m names.sheet case settings) → FitFirstBox case settings → text ≡ margins_text case settings
       → ReadsCase before after names.network names.currents (λ case. IsMarginsOf before after names.sheet case text)
-  reported_on settings text sheet fit is = of_case (λ case. IsMarginsOf before after names.sheet case text) (record {
+  reported_on settings text sheet fit is = here (λ case. IsMarginsOf before after names.sheet case text) (record {
     settings = settings;
     sheet = told_last before between after (λ m. GivesSettings m names.sheet case settings) first.stay sheet;
     fit = fit;

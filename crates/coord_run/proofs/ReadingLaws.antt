@@ -8,7 +8,7 @@ use Rattle.coord_model.specs.StudyData.{StudyData}
 use Rattle.coord_model.specs.declared.study.Current.{Current}
 use Rattle.coord_run.specs.Causes.{FileCause, InputsCause, IsAbsent, IsTableRefusal, NetworkCause, TableCause, network_refusal}
 use Rattle.coord_run.specs.FileLimits.{most_bytes_of}
-use Rattle.coord_run.specs.Inputs.{AreInputs, HasTableFault, Holds, IsNetwork, IsTable, most_bytes}
+use Rattle.coord_run.specs.Inputs.{AreInputs, HasTableFault, Holds, IsNetwork, IsTable, ReadsCase, most_bytes}
 use Rattle.coord_io.specs.Outside.{Changes, FolderState, IsMissing, IsReadAlone, Told}
 use Rattle.coord_run.specs.Stops.{StopsFor}
 use Rattle.coord_run.specs.declared.refusal.File.{File}
@@ -19,6 +19,7 @@ use Rattle.coord_run.specs.declared.refusal.Stop.TheVariants as stop
 use Rattle.fault_table.specs.Table.{currents_of}
 use Rattle.fault_table.specs.declared.fault.TableFault.{TableFault}
 use Rattle.fault_table.specs.declared.fault.TableFault.TheVariants as fault
+use Rattle.margin_rows.specs.Case.{Case, rows_in}
 use Rattle.network_file.specs.Fault.{Fails}
 use Rattle.network_file.specs.Network.{network_of}
 use Rattle.network_file.specs.declared.fault.NetFault.{NetFault}
@@ -121,3 +122,10 @@ inputs_told before between after network currents study entries first later one 
     goes_as (λ m n told both. record { network_file = both.0; table = both.1 })
     (goes_both (told_first before between after (λ m. IsNetwork m network study) one later.stay)
     (told_last before between after (λ m. IsTable m currents study entries) first.stay other))
+
+-- a fact about the case that was read, after a later reading
+pub of_case : (before between after : FolderState) (network currents : List ℕ) (case : Case) (P : Case → Type 0) → IsReadAlone between after
+    → length (rows_in case) ≤ 4096 → Told before between (λ m. AreInputs m network currents case.study case.currents) → P case
+    → ReadsCase before after network currents P
+of_case before between after network currents case P later few_rows read holds =
+    (case, told_first before between after (λ m. AreInputs m network currents case.study case.currents) read later.stay, (few_rows, holds))

@@ -1,3 +1,4 @@
+pub mod Answers
 pub mod Asserted
 pub mod Causes
 pub mod CertRefusals
@@ -6,6 +7,7 @@ pub mod Check
 pub mod Drill
 pub mod End
 pub mod FileLimits
+pub mod Given
 pub mod Handing
 pub mod Headline
 pub mod Inputs

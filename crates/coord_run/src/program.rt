@@ -2,6 +2,7 @@
 ghost use Rattle.std.specs.Prelude.{◌≡◌, Some, map, string_bytes};
 ghost use Rattle.coord_run.specs.SolveWords.{SolveWords};
 ghost use Rattle.coord_run.specs.Names.{command_data, names_data};
+ghost use Rattle.coord_run.specs.Answers.{MustAnswer};
 ghost use Rattle.coord_run.specs.Headline.{Headline};
 ghost use Rattle.coord_run.specs.Printing.{Prints};
 ghost use Rattle.coord_run.specs.Program.{Does, usage_text};
@@ -34,6 +35,8 @@ pub fn run<F: Folder, K: Sink>(alloc: Global, words: &[String], folder: &mut F, 
     ensures does { Does (command_of (map string_bytes words.now)) (F.state folder.old) (F.state folder.new) (K.state out.old) (K.state out.new) result }
     ensures headline { (asked : SolveWords) → command_of (map string_bytes words.now) ≡ Some (solve asked) →
         Headline asked (F.state folder.old) (F.state folder.new) (K.state out.old) (K.state out.new) result }
+    ensures answers { MustAnswer (command_of (map string_bytes words.now)) (F.state folder.old) (F.state folder.new)
+        (K.state out.old) (K.state out.new) result }
 {
     obey(alloc, words, folder, out)
 }

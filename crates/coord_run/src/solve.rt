@@ -3,6 +3,7 @@ ghost use Rattle.std.specs.Prelude.{◌≡◌, ◌^◌, ◌≤◌, IfOk, IfErr, 
 ghost use Rattle.branch_bound.specs.Outcome.{IsReached};
 ghost use Rattle.cert_text.specs.CertData.{IsCert, cert_data};
 ghost use Rattle.coord_io.specs.Outside.{IsReadAlone};
+ghost use Rattle.coord_run.specs.Answers.{MustSolve};
 ghost use Rattle.coord_run.specs.Certified.{cert_of, study_shown};
 ghost use Rattle.coord_run.specs.Handing.{AreWritable, IsWritable, both_texts, output_data};
 ghost use Rattle.coord_run.specs.Headline.{Headline};
@@ -63,6 +64,8 @@ pub fn solve_with<F: Folder, K: Sink, A: Adviser>(
     ensures solves { Solves (record { names = record { network = network.now; currents = currents.now; sheet = sheet.now; cert = cert.now }; gap = gap; budget = budget })
         (F.state folder.old) (F.state folder.new) (K.state out.old) (K.state out.new) result }
     ensures headline { Headline (record { names = record { network = network.now; currents = currents.now; sheet = sheet.now; cert = cert.now }; gap = gap; budget = budget })
+        (F.state folder.old) (F.state folder.new) (K.state out.old) (K.state out.new) result }
+    ensures answers { MustSolve (record { names = record { network = network.now; currents = currents.now; sheet = sheet.now; cert = cert.now }; gap = gap; budget = budget })
         (F.state folder.old) (F.state folder.new) (K.state out.old) (K.state out.new) result }
 {
     let names = Names {
