@@ -1,10 +1,14 @@
 //! What no clause says: that calls succeed, the values of whole studies, and which planned failure is met. The settings,
 //! costs and margins were worked out by hand.
 mod advised;
+mod certs;
 mod checks;
 mod drills;
 mod endings;
+mod faults;
+mod folders;
 mod formats;
+mod hostile;
 mod limits;
 mod listing;
 mod margins;
@@ -77,6 +81,63 @@ line = "AB"
 weight = 1
 "#;
 
+/// The same with dials of both relays from 0.050 to 1.000.
+const WITH_DIALS: &str = r#"format = 1
+
+[study]
+cti_ms = 300
+
+[[line]]
+name = "AB"
+from = "A"
+to = "B"
+
+[[line]]
+name = "BC"
+from = "B"
+to = "C"
+
+[[relay]]
+name = "R1"
+line = "AB"
+bus = "A"
+curve = "iec-b"
+ct_primary = 100
+ct_secondary = 1
+plug_first = 100
+plug_step = 100
+plug_count = 1
+dial_first = 50
+dial_step = 50
+dial_count = 20
+load_amps = 0
+
+[[relay]]
+name = "R2"
+line = "BC"
+bus = "B"
+curve = "iec-b"
+ct_primary = 100
+ct_secondary = 1
+plug_first = 100
+plug_step = 100
+plug_count = 1
+dial_first = 50
+dial_step = 50
+dial_count = 20
+load_amps = 0
+
+[[fault]]
+name = "F1"
+line = "BC"
+weight = 1
+
+[[fault]]
+name = "F2"
+line = "AB"
+weight = 1
+"#;
+
 /// The fault on the second line feeds both relays, at 10 times pickup; the one on the first feeds R1, at 19 times.
 const CURRENTS: &str = "fault,relay,amps\nF1,R2,1000\nF1,R1,1000\nF2,R1,1900\n";
 
@@ -112,7 +173,11 @@ const OLD_SHEET: &str = "an old sheet\n";
 
 const SOLVE: [&str; 5] = ["solve", "n", "t", "s", "c"];
 
+const CHECK: [&str; 4] = ["check", "n", "t", "c"];
+
 const MARGINS: [&str; 4] = ["margins", "n", "t", "s"];
+
+const ACCEPTED: &str = "accepted closed cost 262500 bound 262500 boxes 1\n";
 
 /// A call of a file that is to fail: its kind, the file and the number of the call.
 type Planned = Option<(CallKind, &'static str, u32)>;
@@ -188,11 +253,28 @@ fn called<F: Folder>(
     words: &[&str],
     folder: &mut F,
 ) -> Result<(u8, MemSink), AllocError> {
-    let mut owned = Vec::new(rt.alloc());
-    for word in words {
-        owned.push(String::from_str(rt.alloc(), word)?)?;
-    }
-    let mut out = MemSink::new(rt.alloc(), Vec::new(rt.alloc()));
-    let status = run(rt.alloc(), owned.as_slice(), folder, &mut out);
+    let out = MemSink::new(rt.alloc(), Vec::new(rt.alloc()));
+    called_over(rt, words, folder, out)
+}
+
+/// The program called with these words over the folder and the sink: its status and what is printed.
+fn called_over<F: Folder>(
+    rt: &(impl AllocGlobal + Abort),
+    words: &[&str],
+    folder: &mut F,
+    out: MemSink,
+) -> Result<(u8, MemSink), AllocError> {
+    let mut out = out;
+    let words = owned(rt, words)?;
+    let status = run(rt.alloc(), words.as_slice(), folder, &mut out);
     Ok((status, out))
+}
+
+/// The words as texts of their own.
+fn owned(rt: &impl AllocGlobal, words: &[&str]) -> Result<Vec<String>, AllocError> {
+    let mut made = Vec::new(rt.alloc());
+    for word in words {
+        made.push(String::from_str(rt.alloc(), word)?)?;
+    }
+    Ok(made)
 }

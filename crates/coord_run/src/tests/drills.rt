@@ -1,40 +1,4 @@
-use super::words::read;
 use super::*;
-use crate::words::{Command, WordsRefusal};
-
-/// Words after `drill` that are no ring.
-const OTHERS: [&[&str]; 7] = [
-    &["drill"],
-    &["drill", "2"],
-    &["drill", "49"],
-    &["drill", "03"],
-    &["drill", "x"],
-    &["drill", "-5"],
-    &["drill", "3", "4"],
-];
-
-/// Words that are a ring, and its buses.
-const RINGS: [(&[&str], u32); 3] = [
-    (&["drill", "3"], 3),
-    (&["drill", "48"], 48),
-    (&["drill", "--", "5"], 5),
-];
-
-#[test]
-fn a_ring_has_three_to_forty_eight_buses(rt: HostRuntime) -> Result<(), test::Fail> {
-    for words in &OTHERS {
-        let Err(WordsRefusal::Usage) = read(&rt, words)? else {
-            panic!(rt; "not usage");
-        };
-    }
-    for (words, buses) in &RINGS {
-        let Ok(Command::Drill { n }) = read(&rt, words)? else {
-            panic!(rt; "no ring");
-        };
-        assert_eq!(rt; n, *buses);
-    }
-    Ok(())
-}
 
 /// The least cost of the ring of three buses, found by another method.
 const LEAST: u64 = 14_394_373;

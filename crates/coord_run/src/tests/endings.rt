@@ -98,12 +98,8 @@ const BY_DIALS: [Ending; 6] = [
     },
     // R2 at 0.050 takes 75 ms at F1, so R1 needs 375 ms, which is 0.250
     Ending {
-        network: NETWORK,
-        changes: &[
-            ("dial_first = 250", "dial_first = 50"),
-            ("dial_count = 1\n", "dial_count = 20\n"),
-            ("dial_count = 1\n", "dial_count = 20\n"),
-        ],
+        network: WITH_DIALS,
+        changes: &[],
         currents: CURRENTS,
         status: 0,
         report: REPORT,
@@ -111,12 +107,8 @@ const BY_DIALS: [Ending; 6] = [
     },
     // with 0.200 at most it takes 300 ms, 225 ms more than R2
     Ending {
-        network: NETWORK,
-        changes: &[
-            ("dial_first = 250", "dial_first = 50"),
-            ("dial_count = 1\n", "dial_count = 4\n"),
-            ("dial_count = 1\n", "dial_count = 20\n"),
-        ],
+        network: WITH_DIALS,
+        changes: &[("dial_count = 20", "dial_count = 4")],
         currents: CURRENTS,
         status: 3,
         report: "no settings boxes 1\n",

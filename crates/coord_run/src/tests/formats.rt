@@ -1,36 +1,12 @@
 //! What the formats after the first add: least and greatest times, intervals of pairs, and curves with constants of
 //! their own.
-use super::endings::{ALONE, Ending, end, ends};
+use super::endings::{ALONE, Ending, end};
 use super::*;
-
-/// Dials of both relays from 0.050 to 1.000.
-pub const DIALS: [(&str, &str); 3] = [
-    ("dial_first = 250", "dial_first = 50"),
-    ("dial_count = 1\n", "dial_count = 20\n"),
-    ("dial_count = 1\n", "dial_count = 20\n"),
-];
-
-/// Asserts that the network of two relays in line ends so, with these dials, beside the changes.
-fn end_by_dials(rt: &(impl AllocGlobal + Abort), endings: &[Ending]) -> Result<(), AllocError> {
-    for ending in endings {
-        let dials = edited(rt, ending.network, &DIALS)?;
-        let network = edited(rt, dials.as_str(), ending.changes)?;
-        ends(
-            rt,
-            network.as_str(),
-            ending.currents,
-            ending.status,
-            ending.report,
-            ending.sheet,
-        )?;
-    }
-    Ok(())
-}
 
 const BY_LIMITS: [Ending; 5] = [
     // R2 takes 0.1 s from dial 0.067 on, which is 0.100: 150 ms. R1 waits until 450 ms, at dial 0.300, which is 225 ms at F2.
     Ending {
-        network: NETWORK,
+        network: WITH_DIALS,
         changes: &[
             ("format = 1", "format = 2"),
             ("bus = \"B\"", "bus = \"B\"\nleast_ms = 100"),
@@ -49,7 +25,7 @@ end
     },
     // R1 needs 187.5 ms at F2
     Ending {
-        network: NETWORK,
+        network: WITH_DIALS,
         changes: &[
             ("format = 1", "format = 2"),
             ("bus = \"A\"", "bus = \"A\"\nmost_ms = 150"),
@@ -61,7 +37,7 @@ end
     },
     // 300 ms at F1 at dial 0.200 is 225 ms more than R2, and 150 ms at F2
     Ending {
-        network: NETWORK,
+        network: WITH_DIALS,
         changes: &[
             ("format = 1", "format = 3"),
             (
@@ -83,7 +59,7 @@ end
     },
     // all three: 150 ms of R2, 225 ms more of R1 at dial 0.250, and 187.5 ms at F2, within 188
     Ending {
-        network: NETWORK,
+        network: WITH_DIALS,
         changes: &[
             ("format = 1", "format = 3"),
             ("bus = \"A\"", "bus = \"A\"\nmost_ms = 188"),
@@ -107,7 +83,7 @@ end
     },
     // and not within 187
     Ending {
-        network: NETWORK,
+        network: WITH_DIALS,
         changes: &[
             ("format = 1", "format = 3"),
             ("bus = \"A\"", "bus = \"A\"\nmost_ms = 187"),
@@ -126,7 +102,7 @@ end
 
 #[test]
 fn times_and_intervals_of_their_own_are_kept(rt: HostRuntime) -> Result<(), test::Fail> {
-    Ok(end_by_dials(&rt, &BY_LIMITS)?)
+    Ok(end(&rt, &BY_LIMITS)?)
 }
 
 // 270 ms is 0.140 times 13.5/7 s, the time at 8 times pickup, which is no whole number of nanoseconds.
@@ -155,7 +131,7 @@ const CURVE_B: &str = "\"custom\"\ncustom_k = 135000\ncustom_c = 0\ncustom_j = 1
 
 const BY_CONSTANTS: [Ending; 3] = [
     Ending {
-        network: NETWORK,
+        network: WITH_DIALS,
         changes: &[
             ("format = 1", "format = 4"),
             ("\"iec-b\"", CURVE_B),
@@ -169,7 +145,7 @@ const BY_CONSTANTS: [Ending; 3] = [
     // 54.9755/9 s at F1: 305 ms at dial 0.050 is too soon, so R1 stands at 0.100. At F2 it takes 305.4194.. ms, beside a
     // curve B of IEC.
     Ending {
-        network: NETWORK,
+        network: WITH_DIALS,
         changes: &[
             ("format = 1", "format = 4"),
             (
@@ -191,7 +167,7 @@ end
     },
     // 1/(4^(1/2) - 1) + 0.5 s: 1.5 s at 4 times pickup, so that R1 waits until 375 ms at F1, and F2 costs 375 ms
     Ending {
-        network: NETWORK,
+        network: WITH_DIALS,
         changes: &[
             ("format = 1", "format = 4"),
             (
@@ -217,5 +193,5 @@ end
 fn curves_with_constants_of_their_own_end_beside_named_ones(
     rt: HostRuntime,
 ) -> Result<(), test::Fail> {
-    Ok(end_by_dials(&rt, &BY_CONSTANTS)?)
+    Ok(end(&rt, &BY_CONSTANTS)?)
 }

@@ -1,7 +1,4 @@
 use super::*;
-use fault_table::read_currents;
-use margin_rows::{build, least_gap};
-use network_file::read_network;
 
 /// What a relay has beside its names.
 const REST: &str =
@@ -92,63 +89,42 @@ fn push_others(
 }
 
 #[test]
-fn files_and_quantities_past_their_limit_are_refused(rt: HostRuntime) -> Result<(), test::Fail> {
+fn a_network_past_its_limit_is_refused(rt: HostRuntime) -> Result<(), test::Fail> {
     let mut long = String::from_str(rt.alloc(), NETWORK)?;
     for _ in NETWORK.len()..4_194_305 {
         long.push_str("#")?;
     }
-    let text = long.as_str();
-    let files = [("n", NETWORK), ("t", CURRENTS), ("l", text)];
-    answers(
-        &rt,
-        &["solve", "l", "t", "s", "c"],
-        &files,
-        None,
-        12,
-        "too long: l 4194304\n",
-        &[],
-    )?;
-    answers(
-        &rt,
-        &["solve", "n", "l", "s", "c"],
-        &files,
-        None,
-        12,
-        "too long: l 4194304\n",
-        &[],
-    )?;
-    answers(
-        &rt,
-        &["margins", "n", "t", "l"],
-        &files,
-        None,
-        12,
-        "too long: l 4194304\n",
-        &[],
-    )?;
-    Ok(())
+    let text = "too long: n 4194304\n";
+    Ok(ends_over(&rt, &SOLVE, long.as_str(), CURRENTS, 12, text)?)
 }
 
 // 96 entries at each fault: 8,448
 #[test]
 fn currents_past_their_limit_are_refused(rt: HostRuntime) -> Result<(), test::Fail> {
-    let mut entries = String::from_str(rt.alloc(), "fault,relay,amps\n")?;
-    for i in 1..FAULTS + 1 {
-        for j in 1..LINES + 1 {
-            push_both(&rt, &mut entries, i, j)?;
-        }
-    }
-    let network = star(&rt)?;
-    let files = [("n", network.as_str()), ("t", entries.as_str())];
-    answers(
+    let entries = all_currents(&rt)?;
+    Ok(ends_star(
         &rt,
         &SOLVE,
-        &files,
-        None,
+        entries.as_str(),
         15,
         "too many: currents 8192\n",
-        &[],
-    )?;
+    )?)
+}
+
+/// Entries of both relays of each line at each fault.
+fn all_currents(rt: &impl AllocGlobal) -> Result<String, AllocError> {
+    let mut entries = String::from_str(rt.alloc(), "fault,relay,amps\n")?;
+    for i in 1..FAULTS + 1 {
+        push_all(rt, &mut entries, i)?;
+    }
+    Ok(entries)
+}
+
+/// Adds the entries at a fault.
+fn push_all(rt: &impl AllocGlobal, text: &mut String, fault: u32) -> Result<(), AllocError> {
+    for j in 1..LINES + 1 {
+        push_both(rt, text, fault, j)?;
+    }
     Ok(())
 }
 
@@ -168,58 +144,47 @@ fn push_both(
 // 87 * 47 + 7 = 4,096; one row more is one too many.
 #[test]
 fn as_many_rows_as_may_be_are_coordinated(rt: HostRuntime) -> Result<(), test::Fail> {
-    let network = star(&rt)?;
-    let sheet = star_sheet(&rt)?;
-    let currents = star_currents(&rt, 7)?;
-    let files = [("n", network.as_str()), ("t", currents.as_str())];
-    let after = [("s", sheet.as_str())];
     let text = "closed cost 35464661655720 bound 35464661653080 boxes 1\n";
-    answers(&rt, &SOLVE, &files, None, 0, text, &after)?;
+    let currents = star_currents(&rt, 7)?;
+    Ok(ends_star(&rt, &SOLVE, currents.as_str(), 0, text)?)
+}
+
+#[test]
+fn a_row_more_is_one_too_many(rt: HostRuntime) -> Result<(), test::Fail> {
     let currents = star_currents(&rt, 8)?;
-    let files = [("n", network.as_str()), ("t", currents.as_str())];
-    answers(&rt, &SOLVE, &files, None, 15, "too many: rows 4096\n", &[])?;
-    answers(
-        &rt,
-        &MARGINS,
-        &files,
-        None,
-        15,
-        "too many: rows 4096\n",
-        &[],
-    )?;
-    Ok(())
+    Ok(ends_star(&rt, &SOLVE, currents.as_str(), 15, "too many: rows 4096\n")?)
+}
+
+/// Asserts how the program ends over the star with these currents.
+fn ends_star(
+    rt: &(impl AllocGlobal + Abort),
+    words: &[&str],
+    currents: &str,
+    status: u8,
+    text: &str,
+) -> Result<(), AllocError> {
+    let network = star(rt)?;
+    ends_over(rt, words, network.as_str(), currents, status, text)
+}
+
+/// Asserts how the program ends over these inputs.
+fn ends_over<'x>(
+    rt: &(impl AllocGlobal + Abort),
+    words: &[&str],
+    network: &'x str,
+    currents: &'x str,
+    status: u8,
+    text: &str,
+) -> Result<(), AllocError> {
+    let files = [("n", network), ("t", currents)];
+    answers(rt, words, &files, None, status, text, &[])
 }
 
 // Both times have ends that lie a nanosecond apart: 176 of them, of weight 1,000 at dial 15, are 2,640 microseconds.
 #[test]
 fn the_least_gap_of_many_wide_times_is_their_sum(rt: HostRuntime) -> Result<(), test::Fail> {
-    let network = star(&rt)?;
-    let table = star_currents(&rt, 7)?;
-    let Ok(study) = read_network(rt.alloc(), network.as_bytes()) else {
-        panic!(&rt; "the network is refused");
-    };
-    let Ok(currents) = read_currents(rt.alloc(), &study, table.as_bytes()) else {
-        panic!(&rt; "the currents are refused");
-    };
-    let Ok(inst) = build(rt.alloc(), study, currents) else {
-        panic!(&rt; "the case is refused");
-    };
-    assert_eq!(rt; least_gap(&inst), 2_641);
-    Ok(())
-}
-
-/// The sheet of the star.
-fn star_sheet(rt: &impl AllocGlobal) -> Result<String, AllocError> {
-    let mut sheet = String::from_str(
-        rt.alloc(),
-        "coord-sheet 1\nending closed\ncost 35464661655720\nbound 35464661653080\n",
-    )?;
-    for j in 1..LINES + 1 {
-        let both = format!(in rt.alloc();
-            "relay H{j} plug 1.00 dial 15.000\nrelay W{j} plug 1.00 dial 15.000\n"
-        )?;
-        sheet.push_str(&both)?;
-    }
-    sheet.push_str("end\n")?;
-    Ok(sheet)
+    let words = ["solve", "n", "t", "s", "c", "--gap", "2640"];
+    let currents = star_currents(&rt, 7)?;
+    let text = "gap too small: 2640 least 2641\n";
+    Ok(ends_star(&rt, &words, currents.as_str(), 16, text)?)
 }

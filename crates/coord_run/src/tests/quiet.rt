@@ -1,16 +1,7 @@
 //! A folder and a sink that never fail.
+use super::certs::ONE_BOX;
 use super::*;
-use crate::program::run as program;
 use coord_io::{QuietFile, QuietFolder, QuietSink, are_quiet};
-
-/// The words, owned.
-fn owned(rt: &impl AllocGlobal, words: &[&str]) -> Result<Vec<String>, AllocError> {
-    let mut made = Vec::new(rt.alloc());
-    for word in words {
-        made.push(String::from_str(rt.alloc(), word)?)?;
-    }
-    Ok(made)
-}
 
 /// A file of a quiet folder.
 fn quiet(rt: &(impl AllocGlobal + Abort), name: &str, text: &str) -> Result<QuietFile, AllocError> {
@@ -24,19 +15,16 @@ fn quiet(rt: &(impl AllocGlobal + Abort), name: &str, text: &str) -> Result<Quie
 #[test]
 fn a_folder_and_a_sink_that_never_fail_hold_the_answer(rt: HostRuntime) -> Result<(), test::Fail> {
     let mut files = Vec::new(rt.alloc());
-    for (name, text) in &[("n", NETWORK), ("t", CURRENTS), ("s", ""), ("c", "")] {
+    for (name, text) in &[("n", WITH_DIALS), ("t", CURRENTS), ("s", ""), ("c", "")] {
         files.push(quiet(&rt, name, text)?)?;
     }
     assert!(rt; are_quiet(&files));
     let mut folder = QuietFolder::new(files)?;
     let mut out = QuietSink::new(rt.alloc(), 4_096)?;
     let words = owned(&rt, &SOLVE)?;
-    assert_eq!(rt;
-        program(rt.alloc(), words.as_slice(), &mut folder, &mut out),
-        0
-    );
+    assert_eq!(rt; run(rt.alloc(), words.as_slice(), &mut folder, &mut out), 0);
     assert!(rt; out.bytes() == Some(REPORT.as_bytes()));
     assert!(rt; folder.bytes("s") == Some(SHEET.as_bytes()));
-    assert!(rt; folder.bytes("c") == Some(CERT.as_bytes()));
+    assert!(rt; folder.bytes("c") == Some(ONE_BOX.as_bytes()));
     Ok(())
 }

@@ -212,14 +212,9 @@ fn a_gap_below_the_least_is_refused(rt: HostRuntime) -> Result<(), test::Fail> {
 // The linear programme's weights are 1 for each row at lambda 3: they close the first box at 216,000.
 #[test]
 fn the_programme_closes_parallel_lines_in_one_box(rt: HostRuntime) -> Result<(), test::Fail> {
-    let alloc = rt.alloc();
-    let mut words = Vec::new(alloc);
-    for word in &SOLVE {
-        words.push(String::from_str(alloc, word)?)?;
-    }
     let mut folder = folder_of(&rt, &[("n", PARALLEL), ("t", CROSSED)], None)?;
-    let mut out = MemSink::new(alloc, Vec::new(alloc));
-    assert_eq!(rt; run(alloc, words.as_slice(), &mut folder, &mut out), 0);
+    let (status, out) = called(&rt, &SOLVE, &mut folder)?;
+    assert_eq!(rt; status, 0);
     assert!(rt; out.bytes().starts_with(b"closed cost 216000 bound 21"));
     assert!(rt; out.bytes().ends_with(b" boxes 1\n"));
     let settings = b"relay X plug 2.00 dial 0.032\nrelay Y plug 2.00 dial 0.032\nend\n";

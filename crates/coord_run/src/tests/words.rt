@@ -1,22 +1,21 @@
 //! Words, and the commands that they are by the rules of the command line.
+use super::owned;
 use crate::words::{Command, WordsRefusal, read_words};
 use std::alloc::AllocError;
 use std::process::Abort;
 use std::test;
 
 /// The words as texts of their own, read.
-pub fn read(
+fn read(
     rt: &(impl AllocGlobal + Abort),
     words: &[&str],
 ) -> Result<Result<Command, WordsRefusal>, AllocError> {
-    let mut owned = Vec::new(rt.alloc());
-    for word in words {
-        owned.push(String::from_str(rt.alloc(), word)?)?;
-    }
-    Ok(read_words(rt.alloc(), owned.as_slice()))
+    let words = owned(rt, words)?;
+    Ok(read_words(rt.alloc(), words.as_slice()))
 }
 
-/// Whether the command has this name, these names of files, this gap and this budget; only `solve` has a budget.
+/// Whether the command has this name, these names of files, this gap and this budget; only `solve` has a budget,
+/// and `drill` has the number of its buses there.
 fn is(command: &Command, name: &str, files: &[&str], asked: (Option<u64>, u32)) -> bool {
     match command {
         Command::Solve {
@@ -55,12 +54,12 @@ fn is(command: &Command, name: &str, files: &[&str], asked: (Option<u64>, u32)) 
             name == "check"
                 && files == [network.as_str(), currents.as_str(), cert.as_str()].as_slice()
         }
-        Command::Drill { .. } => false,
+        Command::Drill { n } => name == "drill" && files.is_empty() && asked == (None, *n),
     }
 }
 
 /// Words, the names of files, the gap and the budget of their command.
-const COMMANDS: [(&[&str], &[&str], (Option<u64>, u32)); 12] = [
+const COMMANDS: [(&[&str], &[&str], (Option<u64>, u32)); 15] = [
     (
         &["solve", "n", "t", "s", "c"],
         &["n", "t", "s", "c"],
@@ -115,6 +114,9 @@ const COMMANDS: [(&[&str], &[&str], (Option<u64>, u32)); 12] = [
         &["n", "-t", "n"],
         (None, 0),
     ),
+    (&["drill", "3"], &[], (None, 3)),
+    (&["drill", "48"], &[], (None, 48)),
+    (&["drill", "--", "5"], &[], (None, 5)),
 ];
 
 #[test]
@@ -129,7 +131,7 @@ fn words_are_commands(rt: HostRuntime) -> Result<(), test::Fail> {
 }
 
 /// Words that fit no command.
-const USAGE: [&[&str]; 42] = [
+const USAGE: [&[&str]; 49] = [
     &[],
     &["help"],
     &["--help"],
@@ -172,6 +174,13 @@ const USAGE: [&[&str]; 42] = [
     &["Check", "n", "t", "c"],
     &["pairs", "-n"],
     &["margins", "n", "t", "s", "--budget=3"],
+    &["drill"],
+    &["drill", "2"],
+    &["drill", "49"],
+    &["drill", "03"],
+    &["drill", "x"],
+    &["drill", "-5"],
+    &["drill", "3", "4"],
 ];
 
 #[test]
