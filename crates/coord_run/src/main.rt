@@ -1,8 +1,9 @@
 //! Coord: settings for directional overcurrent relays, coordinated and certified.
 //!
-//! `coord solve NETWORK CURRENTS SHEET` reads a network and its fault currents, and writes a settings sheet.
-//! `coord pairs NETWORK` prints which relay backs which. `coord margins NETWORK CURRENTS SHEET` prints the margins of a
-//! settings sheet.
+//! `coord solve NETWORK CURRENTS SHEET CERT` reads a network and its fault currents, and writes a certificate and a settings
+//! sheet. `coord check NETWORK CURRENTS CERT` believes a certificate only after trying all of it. `coord pairs NETWORK` prints
+//! which relay backs which, `coord margins NETWORK CURRENTS SHEET` the margins of a settings sheet. `coord drill N` searches a
+//! ring of that many buses.
 #![tactic(auto)]
 
 mod cert_refusal_line;
