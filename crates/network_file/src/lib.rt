@@ -22,6 +22,3 @@ pub use fault::NetFault;
 pub use network::read_network;
 pub use print::print_network;
 pub use words::word;
-
-#[cfg(test)]
-mod tests;

@@ -3,8 +3,8 @@ mod faults;
 mod limits;
 mod prints;
 
-use crate::{NetFault, read_network};
 use coord_model::{CurveName, Key, NetKind, Study, TableName, What};
+use network_file::{NetFault, read_network};
 use std::alloc::AllocError;
 use std::process::Abort;
 use std::test::Fail;

@@ -1,6 +1,6 @@
 //! Printing succeeds for studies of each format and size, and prints what it reads again.
 use super::*;
-use crate::print_network;
+use network_file::print_network;
 
 /// Two lines in a row, a relay at the near end of each, and a fault on each.
 const ROW: &str = r#"format = 1
