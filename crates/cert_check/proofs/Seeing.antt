@@ -1,13 +1,12 @@
 -- A walk beside a scan: as many boxes are due as nodes, and each node that the scan takes is one that the walk can take.
-use Rattle.std.proofs.Common.{◌≡◌, ℕ, suc, ◌+◌, ◌≤◌, inl, List, [], ◌∷◌, ◌++◌, length, All, None, refl, sym, ap, ◌∙◌, subst, arith}
+use Rattle.std.proofs.Common.{◌≡◌, ℕ, suc, ◌+◌, inl, List, [], ◌∷◌, ◌++◌, length, All, None, refl, sym, ap, ◌∙◌, subst, arith}
 use Rattle.std.specs.List.{AllByRecursion}
-use Rattle.std.specs.Prelude.{⊤}
 use Rattle.coord_model.specs.Tree.{Single}
 use Rattle.coord_model.specs.TreeLimits.{AreLeafWeights}
 use Rattle.coord_model.specs.declared.tree.NodeLine.{NodeLine}
 use Rattle.coord_model.specs.declared.tree.NodeLine.TheVariants.{Split, Empty, Void, Bound, Hair, OpenLeaf}
 use Rattle.coord_model.specs.declared.weights.Weight.{Weight}
-use Rattle.cert_text.specs.DueNodes.{Leads, MayStand, Takes, due_after}
+use Rattle.cert_text.specs.DueNodes.{Leads, Takes, due_after}
 use Rattle.cert_text.specs.Nodes.{IsNode, IsNodeWith}
 use Rattle.cert_text.specs.Scanning.{NodesTo, State}
 use Rattle.cert_tree.specs.Judgement.{HasLambda}
@@ -40,24 +39,6 @@ both_due case (node ∷ nodes) (d ∷ dues) later before after leads walked same
     let others : length takes.others ≡ length dues = omega (arith, same, ap length takes.first) in
     let rest = both_due case nodes (due_after node.line d dues) later walked.0 after leads.1 walked.2 (as_many case takes.box takes.others walked.0.due node.line d dues takes.due others) in
     (rest.0, omega (arith, rest.1, takes.nodes))
-
--- each due node has at least as many splits above it as nodes are due after it
-abbrev AreStairs : List ℕ → Type 0
-AreStairs [] = ⊤
-AreStairs (d ∷ dues) = (length dues ≤ d) × AreStairs dues
-
-stairs_after : (line : NodeLine) (d : ℕ) (dues : List ℕ) → AreStairs (d ∷ dues) → AreStairs (due_after line d dues)
-stairs_after (Split relay at) d dues are = (omega (arith, are.0), (omega (arith, are.0), are.1))
-stairs_after Empty d dues are = are.1
-stairs_after Void d dues are = are.1
-stairs_after (Bound lambda) d dues are = are.1
-stairs_after (Hair row) d dues are = are.1
-stairs_after (OpenLeaf lambda) d dues are = are.1
-
-stairs : (nodes : List Single) (dues later : List ℕ) → Leads dues nodes later → AreStairs dues → AreStairs later
-stairs [] dues later leads are = subst AreStairs leads are
-stairs (node ∷ nodes) [] later leads are = absurd leads
-stairs (node ∷ nodes) (d ∷ dues) later leads are = stairs nodes (due_after node.line d dues) later leads.1 (stairs_after node.line d dues are)
 
 no_weights : AreLeafWeights []
 no_weights = record { few = omega arith; ascending = λ k more. absurd (omega (arith, more)); some = λ k d less. absurd (omega (arith, less)); small = λ k d less. absurd (omega (arith, less)) }
@@ -94,15 +75,11 @@ can_take case box s lines nodes walk line weights after later to each are walked
     let both = both_due case nodes (0 ∷ []) s.dues (walk_at box) walk leads walked refl in
     let some : length s.dues ≡ suc (length takes.others) = ap length takes.first in
     let count : walk.nodes ≡ s.taken = both.1 ∙ omega (arith, ap length same, to.count) in
-    let high = subst AreStairs takes.first (stairs nodes (0 ∷ []) s.dues leads (omega arith, tt)) in
     record {
       due = omega (arith, both.0, some);
       leaf = leaf_weights line weights is;
       lambda = has_lambda line weights is;
       few = omega (arith, count, takes.room, takes.counted);
-      room = λ relay at is_split.
-          let deep : suc takes.above ≤ 3072 = subst (λ (l : NodeLine). MayStand l takes.above) is_split takes.may in
-          omega (arith, both.0, some, high.0, deep);
     }
 
 -- what a walk has seen with a node more

@@ -1,9 +1,8 @@
 -- The nodes of a certificate, seen by a walk while its lines come in (ours).
-use Rattle.std.specs.Prelude.{◌≡◌, ◌<◌, ◌≤◌, ℕ, false, Option, Some, None, List, [], ◌∷◌, ◌++◌, All, codes, length, map}
+use Rattle.std.specs.Prelude.{◌≡◌, ◌<◌, ℕ, false, Option, Some, None, List, [], ◌∷◌, ◌++◌, All, codes, length, map}
 use Rattle.coord_model.specs.Tree.{Single}
 use Rattle.coord_model.specs.TreeLimits.{AreLeafWeights}
 use Rattle.coord_model.specs.declared.tree.NodeLine.{NodeLine}
-use Rattle.coord_model.specs.declared.tree.NodeLine.TheVariants.{Split}
 use Rattle.coord_model.specs.declared.weights.Weight.{Weight}
 use Rattle.cert_text.specs.CertText.{head_lines}
 use Rattle.cert_text.specs.Nodes.{node_line}
@@ -23,7 +22,6 @@ pub record CanTake (case : Case) (walk : Walk) (line : NodeLine) (weights : List
   pub leaf : AreLeafWeights weights
   pub lambda : HasLambda line
   pub few : walk.nodes < 400001
-  pub room : (relay at : ℕ) → line ≡ Split relay at → length walk.due ≤ 3072
 
 -- a walk goes on, over boxes of the case
 pub record IsGoing (case : Case) (walk : Walk) : Type 0 where

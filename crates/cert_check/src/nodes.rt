@@ -25,7 +25,8 @@ pub(crate) struct NodeCheck {
 }
 
 impl NodeCheck {
-    /// A walk that begins at the first box. It reserves the room for all boxes.
+    /// A walk that begins at the first box. It reserves the room for all boxes that can be due: one more than the splits
+    /// that the box allows.
     pub(crate) fn new(alloc: Global, inst: &Instance) -> Result<NodeCheck, NoMemory>
         ensures { IfOk result (λ check. (box : Box) × IsFirstBox inst.now box × Saw inst.now box check.walk check.fault []) }
     {

@@ -2,6 +2,7 @@ pub mod TightBoxes
 pub mod NodeLaws
 pub mod TreeLaws
 pub mod Proving
+pub mod Splits
 pub mod Rooms
 pub mod WalkLaws
 pub mod WalkedTrees

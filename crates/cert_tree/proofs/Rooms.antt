@@ -1,9 +1,9 @@
 -- What stands in the room for boxes as the first due box is tightened and cut.
 use Rattle.std.specs.List.{All}
-use Rattle.std.proofs.Common.{◌≡◌, ℕ, suc, ◌+◌, ◌-◌, ◌<◌, ◌≤◌, List, [], ◌∷◌, ◌++◌, length, get_or, set, take, drop, drop-cons, arith, refl, sym, ◌∙◌, ap, subst}
-use Rattle.std.proofs.lemmas.List.{drop-append-le, drop-set-lt, drop_all, get_or_default, get_or-set_same, length-drop, length-set, length-take, take-append-le, take_all}
+use Rattle.std.proofs.Common.{◌≡◌, ℕ, suc, ◌+◌, ◌-◌, ◌<◌, ◌≤◌, List, [], ◌∷◌, ◌++◌, length, get_or, replicate, set, take, drop, drop-cons, arith, refl, sym, ◌∙◌, ap, subst}
+use Rattle.std.proofs.lemmas.List.{drop-append-le, drop-set-lt, drop-replicate, drop_all, get_or_default, get_or-set_same, length-drop, length-replicate, length-set, length-take, take-append-le, take_all}
 use Rattle.std.specs.Prelude.{Option}
-use Rattle.std.proofs.lemmas.List.Elements.{All-append, All-cons, All-drop, All-head, All-tail, All-set, All-take}
+use Rattle.std.proofs.lemmas.List.Elements.{All-append, All-cons, All-drop, All-head, All-replicate, All-tail, All-set, All-take}
 use Rattle.coord_model.specs.declared.tree.NodeLine.{NodeLine}
 use Rattle.coord_model.specs.declared.tree.NodeLine.TheVariants.{Split, Empty, Void, Bound, Hair, OpenLeaf}
 use Rattle.margin_rows.specs.Box.{Box, FitsBox}
@@ -14,9 +14,10 @@ use Rattle.coord_model.specs.Tree.{empty}
 use Rattle.coord_model.specs.declared.weights.Weight.{Weight}
 use Rattle.cert_tree.specs.Judgement.{IsRightWith, single}
 use Rattle.cert_tree.specs.NodeRules.{IsTightBox}
+use Rattle.cert_tree.proofs.Splits.{can_split_some, narrowed_places, places_after, within_splits}
 use Rattle.cert_tree.proofs.TightBoxes.{tight_only}
 use Rattle.cert_tree.proofs.TreeLaws.{halves_fit}
-use Rattle.cert_tree.specs.Room.{AreAlike, IsLike, box_at, no_box}
+use Rattle.cert_tree.specs.Room.{AreAlike, HasPlaces, IsLike, IsRoom, box_at, no_box, splits_left}
 use Rattle.cert_tree.specs.Counting.{counts_by}
 use Rattle.cert_tree.specs.Walks.{AreDueAfter, AtFirst}
 
@@ -55,12 +56,6 @@ placed_alike room front back first low high alike is_front is_back spans =
       rw (is_front, is_back) (All-append P (set (take first room) (first - 1) low) (set (drop first room) 0 high)
           (All-set P (take first room) (first - 1) low new.0 (All-take P first room alike.1)) (All-set P (drop first room) 0 high new.1 (All-drop P first room alike.1))),
     )
-
--- and after a box is narrowed
-pub narrowed_alike : (room : List Box) (first : ℕ) (box : Box) → AreAlike room → first < length room → IsWithin box (box_at room first) → AreAlike (set room first box)
-narrowed_alike room first box alike below within =
-    let was = alike.1 first no_box below in
-    (alike.0, All-set (IsLike alike.0) room first box (record { pickup = within.pickup.count ∙ was.pickup; dial = within.dial.count ∙ was.dial }) alike.1)
 
 module _ (case : Case) (room : List Box) (first : ℕ) (found new : Box) (ws : List Weight) (given : Option ℕ) (below : first < length room) where
   -- a split that was right at the first due box can be made where that is tightened
@@ -115,6 +110,53 @@ first_fits case room first some all =
     let whole = subst (λ (xs : List Box). All (FitsBox case) xs) (due_cons room first (first_due room first some)) all in
     (All-head (FitsBox case) (box_at room first) (drop (first + 1) room) whole, All-tail (FitsBox case) (box_at room first) (drop (first + 1) room) whole)
 
+-- the places of a room, the first due box apart
+first_places : (room : List Box) (first : ℕ) → IsRoom room first → first < length room → HasPlaces (box_at room first ∷ drop (first + 1) room) (length room)
+first_places room first is below = subst (λ (xs : List Box). HasPlaces xs (length room)) (due_cons room first below) is.places
+
+-- equal boxes, one more than the splits that they allow, are a room in which the last is due
+pub begun_room : (box : Box) (room : List Box) (first : ℕ) → room ≡ replicate (splits_left box + 1) box → first ≡ length room - 1 → IsRoom room first
+begun_room box room first is count =
+    let size : length room ≡ splits_left box + 1 = ap (λ (xs : List Box). length xs) is ∙ length-replicate (splits_left box + 1) box in
+    let last : splits_left box + 1 - first ≡ 1 = omega (arith, size, count) in
+    let due : drop first room ≡ box ∷ [] = ap (λ (xs : List Box). drop first xs) is ∙ drop-replicate first (splits_left box + 1) box ∙ ap (λ (n : ℕ). replicate n box) last in
+    record {
+      within = omega (arith, count, size);
+      alike = (box, rw is (All-replicate (IsLike box) (splits_left box + 1) box (record { pickup = refl; dial = refl })));
+      places = rw (due, size) (omega arith, tt);
+    }
+
+-- a room is one still after the first due box is narrowed
+pub narrowed_room : (room : List Box) (first : ℕ) (box : Box) → IsRoom room first → first < length room → IsWithin box (box_at room first) → IsRoom (set room first box) first
+narrowed_room room first box is below within =
+    let was = is.alike.1 first no_box below in
+    let count : length (set room first box) ≡ length room = length-set room first box in
+    let rest : drop (first + 1) (set room first box) ≡ drop (first + 1) room = drop-set-lt (first + 1) room first box (omega arith) in
+    let here : box_at (set room first box) first ≡ box = get_or-set_same room first box no_box below in
+    let due : drop first (set room first box) ≡ box ∷ drop (first + 1) room = due_cons (set room first box) first (omega (arith, below, count)) ∙ rw (here, rest) refl in
+    record {
+      within = omega (arith, below, count);
+      alike = (is.alike.0, All-set (IsLike is.alike.0) room first box (record { pickup = within.pickup.count ∙ was.pickup; dial = within.dial.count ∙ was.dial }) is.alike.1);
+      places = rw (due, count) (narrowed_places (box_at room first) box (drop (first + 1) room) (length room) within (first_places room first is below));
+    }
+
+-- and after a node that is right
+pub room_after : (case : Case) (room later : List Box) (first next : ℕ) (line : NodeLine) (ws : List Weight) (given : Option ℕ) → IsRoom room first → first < length room
+    → IsRightWith case (box_at room first) (single line ws) given → AreDueAfter case (box_at room first) (drop (first + 1) room) line (drop next later)
+    → length later ≡ length room → next ≤ length later → AreAlike later → IsRoom later next
+room_after case room later first next line ws given is below right due count within alike = record {
+  within = within;
+  alike = alike;
+  places = rw count (places_after case (box_at room first) (drop (first + 1) room) line ws given (drop next later) (length room) right due (first_places room first is below));
+}
+
+-- before a first due box that can be split where it is tightened stands a spare one
+pub spare_before : (room : List Box) (first : ℕ) (tight : Box) (relay at : ℕ) → IsRoom room first → first < length room → IsWithin tight (box_at room first)
+    → CanSplit (box_at (set room first tight) first) relay at → 0 < first
+spare_before room first tight relay at is below within can =
+    let some = can_split_some tight relay at (rw (get_or-set_same room first tight no_box below) at can) in
+    omega (arith, some, below, (first_places room first is below).0, length-drop (first + 1) room, within_splits tight (box_at room first) within)
+
 -- the room as it is written back
 pub written_back : (new rest : List Box) (len : ℕ) → length new ≡ len → take len (new ++ rest) ≡ new
 written_back new rest len is = take-append-le len new rest (omega (arith, is)) ∙ take_all len new (omega (arith, is))
@@ -127,13 +169,6 @@ one_box Void = omega arith
 one_box (Bound lambda) = omega arith
 one_box (Hair row) = omega arith
 one_box (OpenLeaf lambda) = omega arith
-
--- boxes of one room are like one another
-pub both_alike : (room : List Box) (i j : ℕ) (d e : Box) → AreAlike room → i < length room → j < length room → IsLike (get_or room i d) (get_or room j e)
-both_alike room i j d e alike in_i in_j =
-    let x = alike.1 i d in_i in
-    let y = alike.1 j e in_j in
-    record { pickup = y.pickup ∙ sym x.pickup; dial = y.dial ∙ sym x.dial }
 
 pub at_first_due : (P : Box → Type 0) (room : List Box) (first : ℕ) → 0 < length (drop first room) → AtFirst P (drop first room) → P (box_at room first)
 at_first_due P room first some at = subst (λ (xs : List Box). AtFirst P xs) (due_cons room first (first_due room first some)) at

@@ -8,7 +8,7 @@ use Rattle.coord_model.specs.declared.weights.Weight.{Weight}
 use Rattle.margin_rows.specs.Box.{Box}
 use Rattle.margin_rows.specs.Case.{Case}
 use Rattle.cert_tree.specs.Counting.{both, no_counts}
-use Rattle.cert_tree.specs.Endings.{counts_of, ending_by, ending_of}
+use Rattle.cert_tree.specs.Endings.{counts_of}
 use Rattle.cert_tree.specs.Holding.{Fails, Holds, at_bound, at_empty, at_hair, at_open_leaf, at_split, at_void, below_high, below_low, here, lower}
 use Rattle.cert_tree.specs.Judgement.{IsRightWith}
 use Rattle.cert_tree.specs.NodeFaults.{IsFirstWrong}
@@ -114,8 +114,8 @@ refused_tree case (bound lambda weights) box others before number kind is at = l
 refused_tree case (hair row) box others before number kind is at = leaf_fails case (hair row) box others before number kind is at
 refused_tree case (open_leaf lambda weights) box others before number kind is at = leaf_fails case (open_leaf lambda weights) box others before number kind is at
 
--- a walk that began at a box and took the nodes of a tree ended: the tree holds there, and its bound, its boxes and its
--- ending are those of the walk
+-- a walk that began at a box and took the nodes of a tree: the tree holds there, its bound and what it comes to are those
+-- of the walk, and no box is due
 pub walk_holds : (case : Case) (box : Box) (tree : Tree) (later : Walk) → Walked case (walk_at box) (nodes_of tree) later → Holds case box tree later.bound
 walk_holds case box tree later walked =
     let past = walked_tree case tree box [] (walk_at box) later refl walked in
@@ -129,10 +129,6 @@ walk_counts case box tree later walked = (walked_tree case tree box [] (walk_at 
 
 pub walk_due : (case : Case) (box : Box) (tree : Tree) (later : Walk) → Walked case (walk_at box) (nodes_of tree) later → later.due ≡ []
 walk_due case box tree later walked = (walked_tree case tree box [] (walk_at box) later refl walked).due
-
-pub walk_ending : (case : Case) (box : Box) (tree : Tree) (later : Walk) (cost : Option ℕ) (gap budget : ℕ) → Walked case (walk_at box) (nodes_of tree) later
-    → ending_by later.counts later.bound cost gap budget ≡ ending_of tree later.bound cost gap budget
-walk_ending case box tree later cost gap budget walked = ap (λ (c : Counts). ending_by c later.bound cost gap budget) (walk_counts case box tree later walked)
 
 -- and one that was refused at a node: the tree fails there
 pub walk_fails : (case : Case) (box : Box) (tree : Tree) (number : ℕ) (kind : NodeKind) → Refuses case (walk_at box) (nodes_of tree) number kind → Fails case box tree number kind

@@ -1,6 +1,6 @@
 //! Whether a tree holds at a box: the walk over its nodes.
 ghost use Rattle.std.specs.Prelude.{◌≡◌, ℕ, ◌+◌, ◌<◌, ◌≤◌, Option, false, length, suc, All, IfOk, IfErr, OnOk};
-ghost use Rattle.coord_model.specs.Tree.{depth, nodes_of, shape};
+ghost use Rattle.coord_model.specs.Tree.{nodes_of, shape};
 ghost use Rattle.coord_model.specs.TreeLimits.{FitLeaves, FitsTree};
 ghost use Rattle.margin_rows.specs.Box.{FitsBox};
 ghost use Rattle.margin_rows.specs.Case.{FitsCase};
@@ -77,7 +77,6 @@ fn take_tree(walk: &mut TreeWalk, inst: &Instance, node: &Node) -> Result<(), No
     requires fits { All (FitsBox inst.now) walk.old.due }
     requires leaves { FitLeaves (shape node.now) }
     requires nodes { walk.old.nodes + length (nodes_of (shape node.now)) ≤ 400001 }
-    requires room { length walk.old.due + depth (shape node.now) ≤ 3073 }
 
     ensures walked { OnOk result (Walked inst.now walk.old (nodes_of (shape node.now)) walk.new) }
     ensures refused { IfErr result (λ kind. (number : ℕ) × Refuses inst.now walk.old (nodes_of (shape node.now)) number kind × (suc walk.new.nodes ≡ walk.old.nodes + number)) }

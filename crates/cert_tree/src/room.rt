@@ -1,19 +1,49 @@
 //! Room for the boxes that are due: they stand at its end, the first of them foremost.
-ghost use Rattle.std.specs.Prelude.{◌≡◌, ℕ, ◌+◌, ◌-◌, ◌<◌, ◌≤◌, ◌∷◌, length, drop, IfOk, IfErr};
+ghost use Rattle.std.specs.Prelude.{◌≡◌, ℕ, ◌+◌, ◌-◌, ◌<◌, ◌∷◌, length, drop, IfOk, IfErr, OnErr};
 ghost use Rattle.coord_model.specs.TreeLimits.{AreLeafWeights};
-ghost use Rattle.margin_rows.specs.Box.{Box, FitsBox};
+ghost use Rattle.margin_rows.specs.Box.{Box, FitsBox, IsShownAs};
 ghost use Rattle.margin_rows.specs.Case.{FitsCase};
 ghost use Rattle.margin_rows.specs.Halves.{CanSplit, AreHalves};
+ghost use Rattle.margin_rows.specs.declared.span.Steps.{Steps};
 ghost use Rattle.cert_tree.specs.Judgement.{single, HasLambda, IsRightWith};
 ghost use Rattle.cert_tree.specs.NodeFaults.{IsFirstWrong};
-ghost use Rattle.cert_tree.specs.Room.{AreAlike, IsLike, box_at};
+ghost use Rattle.cert_tree.specs.Room.{AreAlike, IsLike, IsRoom, box_at, splits_left, splits_of};
 ghost use Rattle.cert_tree.specs.Walks.{AreDueAfter};
 
 use crate::judge::judge;
 use crate::kind::NodeKind;
-use coord_model::{NodeLine, Weight};
-use margin_rows::{Instance, Ranges};
+use coord_model::{NoMemory, NodeLine, Weight};
+use margin_rows::{Instance, Ranges, Span};
 use std::mem;
+
+/// The places for the boxes that can be due from this box on: one more than the splits that it allows.
+///
+/// `NoMemory` also if they or the relays are too many to count: a room that great can't be made.
+pub fn places_from(ranges: &Ranges) -> Result<usize, NoMemory>
+    ensures { IfOk result (λ places. places ≡ splits_left ranges.now + 1) }
+{
+    splits_left(ranges)?.checked_add(1).ok_or(NoMemory)
+}
+
+/// The splits that a box allows, one below another.
+fn splits_left(ranges: &Ranges) -> Result<usize, NoMemory>
+    ensures { IfOk result (λ splits. splits ≡ splits_left ranges.now) }
+{
+    let relays = u16::try_from(ranges.relays()).map_err(|_| NoMemory)?;
+    let mut splits: usize = 0;
+    for relay in 0..relays {
+        let more = splits_of(ranges.pickup(relay));
+        splits = splits.checked_add(more).ok_or(NoMemory)?;
+    }
+    Ok(splits)
+}
+
+/// The splits that a span allows: one fewer than its steps.
+fn splits_of(shown: Span) -> usize
+    ensures { (span : Steps) → IsShownAs span shown → result ≡ splits_of span }
+{
+    usize::from(shown.hi.saturating_sub(shown.lo))
+}
 
 /// Takes a node at the first due box: where the due boxes begin then, and the bound that the node gives.
 ///
@@ -26,17 +56,16 @@ pub fn take_first(
     weights: &[Weight],
 ) -> Result<(usize, Option<u64>), NodeKind>
     requires place { first < length room.old }
-    requires alike { AreAlike room.old }
+    requires room { IsRoom room.old first }
     requires fits { FitsBox inst.now (box_at room.old first) }
     requires weights { AreLeafWeights weights.now }
     requires lambda { HasLambda line }
-    requires spare { (relay at : ℕ) → line ≡ NodeLine.Split relay at → 0 < first }
 
     ensures right { IfOk result (λ taken. IsRightWith inst.now (box_at room.old first) (single line weights.now) taken.1) }
     ensures due { IfOk result (λ taken. AreDueAfter inst.now (box_at room.old first) (drop (first + 1) room.old) line (drop taken.0 room.new)) }
-    ensures within { IfOk result (λ taken. taken.0 ≤ length room.old) }
     ensures wrong { IfErr result (IsFirstWrong inst.now (box_at room.old first) (single line weights.now)) }
-    ensures alike { AreAlike room.new }
+    ensures room { IfOk result (λ taken. IsRoom room.new taken.0) }
+    ensures kept { OnErr result (IsRoom room.new first) }
     ensures limits { FitsCase inst.now }
 {
     let given = judge(inst, &mut room[first], line, weights)?;

@@ -163,7 +163,7 @@ fn by_nodes(
 }
 
 /// How many nodes are due, how many were taken, the boxes, and the bound so far.
-type Place = (u32, u32, u32, Option<u64>);
+type Place = (usize, u32, u32, Option<u64>);
 
 /// Where a walk is after so many nodes of a tree.
 fn after(alloc: Global, inst: &Instance, tree: &Tree, count: usize) -> Result<Place, TreeRefusal> {
@@ -195,7 +195,7 @@ fn take(
     requires fits { All (FitsBox inst.now) walk.old.due }
 {
     for node in nodes {
-        let is_due = walk.due() > 0 && walk.due() <= 3_072 && walk.nodes() < 400_001;
+        let is_due = walk.due() > 0 && walk.nodes() < 400_001;
         if !is_due {
             break;
         }

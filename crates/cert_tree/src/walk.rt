@@ -14,14 +14,11 @@ ghost use Rattle.cert_tree.specs.Walks.{AtFirst, Takes};
 
 use crate::counts::Counts;
 use crate::kind::NodeKind;
-use crate::room::take_first;
+use crate::room::{places_from, take_first};
 use coord_model::{Ending, NoMemory, NodeLine, Weight};
 use margin_rows::{Instance, Ranges};
 use std::alloc::Global;
 use std::marker::Model;
-
-/// The most boxes that are due at one time: one more than the splits on a path.
-const ROOM: usize = 3_073;
 
 /// A walk over the nodes of a tree in pre-order: the boxes that are due, and what the nodes so far come to.
 #[derive(Drop)]
@@ -53,7 +50,8 @@ impl Model for TreeWalk {
 }
 
 impl TreeWalk {
-    /// A walk that begins at the first box. It reserves the room for all boxes.
+    /// A walk that begins at the first box. It reserves the room for all boxes that can be due: one more than the splits
+    /// that the box allows.
     pub fn new(alloc: Global, inst: &Instance) -> Result<TreeWalk, NoMemory>
         ensures first { IfOk result (λ walk. (box : Box) × IsFirstBox inst.now box × (walk ≡ walk_at box)) }
 
@@ -64,13 +62,16 @@ impl TreeWalk {
         TreeWalk::at(alloc, &Ranges::first(alloc, inst)?)
     }
 
-    /// A walk that begins at a box. It reserves the room for all boxes.
+    /// A walk that begins at a box. It reserves the room for all boxes that can be due: one more than the splits that the
+    /// box allows.
     pub fn at(alloc: Global, ranges: &Ranges) -> Result<TreeWalk, NoMemory>
         ensures { IfOk result (λ walk. walk ≡ walk_at ranges.now) }
     {
+        let room = copies(alloc, ranges, places_from(ranges)?)?;
+        let first = room.len() - 1;
         Ok(TreeWalk {
-            room: copies(alloc, ranges)?,
-            first: ROOM - 1,
+            room,
+            first,
             nodes: 0,
             counts: Counts::none(),
             bound: None,
@@ -93,7 +94,6 @@ impl TreeWalk {
         requires weights { AreLeafWeights weights.now }
         requires lambda { HasLambda line }
         requires nodes { self.old.nodes < 400001 }
-        requires room { (relay at : ℕ) → line ≡ NodeLine.Split relay at → length self.old.due ≤ 3072 }
 
         ensures taken { OnOk result (Takes inst.now self.old (single line weights.now) self.new) }
 
@@ -121,10 +121,10 @@ impl TreeWalk {
     }
 
     /// How many boxes are due.
-    pub fn due(&self) -> u32
+    pub fn due(&self) -> usize
         ensures { result ≡ length self.now.due }
     {
-        (ROOM - self.first) as u32
+        self.room.len() - self.first
     }
 
     /// How many nodes were taken.
@@ -159,12 +159,12 @@ impl TreeWalk {
     }
 }
 
-/// As many equal boxes as there is room for.
-fn copies(alloc: Global, ranges: &Ranges) -> Result<Vec<Ranges>, NoMemory>
-    ensures { IfOk result (λ room. room.items ≡ replicate 3073 ranges.now) }
+/// So many boxes, each equal to this one.
+fn copies(alloc: Global, ranges: &Ranges, places: usize) -> Result<Vec<Ranges>, NoMemory>
+    ensures { IfOk result (λ room. room.items ≡ replicate places ranges.now) }
 {
-    let mut room = Vec::with_capacity(alloc, ROOM)?;
-    for _ in 0..ROOM {
+    let mut room = Vec::with_capacity(alloc, places)?;
+    for _ in 0..places {
         room.push(ranges.copy()?)?;
     }
     Ok(room)

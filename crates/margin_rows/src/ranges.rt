@@ -49,6 +49,13 @@ impl Ranges {
         })
     }
 
+    /// How many relays have a span of pickup steps.
+    pub fn relays(&self) -> usize
+        ensures { result ≡ length self.now.pickup }
+    {
+        self.pickup.len()
+    }
+
     /// The span of a relay's pickup steps.
     pub fn pickup(&self, relay: u16) -> Span
         requires { relay < length self.now.pickup }

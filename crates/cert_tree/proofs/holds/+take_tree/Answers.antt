@@ -1,7 +1,7 @@
-use Rattle.std.proofs.Common.{◌≡◌, suc, ◌+◌, ◌<◌, ◌≤◌, ◌++◌, length, max, arith, ap}
+use Rattle.std.proofs.Common.{◌≡◌, suc, ◌<◌, ◌++◌, length, arith, ap}
 use Rattle.std.proofs.lemmas.List.{length-append}
 use Rattle.std.proofs.lemmas.Result.{err_from_is_err_and}
-use Rattle.coord_model.specs.Tree.{depth, nodes_of, shape}
+use Rattle.coord_model.specs.Tree.{nodes_of, shape}
 use Rattle.cert_tree.proofs.TreeTaking.{due_between, first_refused, high_refused, low_refused, nodes_between, one_refused, split_walked}
 use Rattle.cert_tree.proofs.holds.+take_tree.Goals as goal
 
@@ -28,10 +28,8 @@ take_tree-requires-in-Split t c =
     let due = due_between case c.args.walk.now c.node.new.self c.in-Split.relay c.in-Split.at (shape low) (shape high) takes c.take_tree.new.walk walked in
     let leaves = rw c.in-Split.is at c.requires.leaves in
     let few = rw c.in-Split.is at c.requires.nodes in
-    let deep = rw c.in-Split.is at c.requires.room in
     let size : length (nodes_of (shape c.args.node.now)) ≡ suc (length (nodes_of (shape low) ++ nodes_of (shape high))) = ap (λ n. length (nodes_of (shape n))) c.in-Split.is in
-    let later : length (nodes_of (shape c.deref-in-Split.result.now)) < t = rw c.deref-in-Split.ensures (omega (arith, c.decreases, size, length-append (nodes_of (shape low)) (nodes_of (shape high)))) in
-    let room : length c.args.walk.now.due + suc (max (depth (shape low)) (depth (shape high))) ≤ 3073 = deep in (
+    let later : length (nodes_of (shape c.deref-in-Split.result.now)) < t = rw c.deref-in-Split.ensures (omega (arith, c.decreases, size, length-append (nodes_of (shape low)) (nodes_of (shape high)))) in (
       later,
       (
         omega (arith, due, c.requires.due),
@@ -41,11 +39,8 @@ take_tree-requires-in-Split t c =
             c.in_ok-take_tree-in-Split.ensures.fits,
             (
               rw c.deref-in-Split.ensures leaves.1,
-              (
-                rw c.deref-in-Split.ensures
-                    (nodes_between case c.args.walk.now c.node.new.self c.in-Split.relay c.in-Split.at (shape low) (shape high) takes c.take_tree.new.walk walked few),
-                rw c.deref-in-Split.ensures (omega (arith, due, room)),
-              ),
+              rw c.deref-in-Split.ensures
+                  (nodes_between case c.args.walk.now c.node.new.self c.in-Split.relay c.in-Split.at (shape low) (shape high) takes c.take_tree.new.walk walked few),
             ),
           ),
         ),

@@ -1,9 +1,9 @@
-use Rattle.std.proofs.Common.{◌≡◌, ◌+◌, ◌<◌, ◌≤◌, All, List, arith, ap, drop, length, sym, subst, ◌∙◌}
-use Rattle.margin_rows.specs.Box.{Box, FitsBox}
+use Rattle.std.proofs.Common.{◌≡◌, ◌+◌, ◌<◌, All, arith, ap, drop, length, sym, subst, ◌∙◌}
+use Rattle.margin_rows.specs.Box.{FitsBox}
 use Rattle.cert_tree.specs.Counting.{counts_by}
 use Rattle.cert_tree.specs.Judgement.{single}
 use Rattle.cert_tree.specs.NodeRules.{IsRight}
-use Rattle.cert_tree.specs.Room.{IsRoom, box_at}
+use Rattle.cert_tree.specs.Room.{box_at}
 use Rattle.cert_tree.specs.Walks.{AtFirst, Walk}
 use Rattle.cert_tree.specs.declared.counts.Counts.{Counts}
 use Rattle.cert_tree.proofs.NodeLaws.{right_not_wrong}
@@ -21,26 +21,22 @@ all_fit c = subst (λ (w : Walk). All (FitsBox c.args.inst.now) w.due) (sym c.se
 pub take_first-requires-clause-fits : goal.take_first-requires-clause-fits
 take_first-requires-clause-fits c = rw c.deref_mut.ensures.value (first_fits c.args.inst.now c.self.inside.room.items c.self.inside.first (some_due c) (all_fit c)).0
 
+pub take_first-requires-clause-room : goal.take_first-requires-clause-room
+take_first-requires-clause-room c = rw c.deref_mut.ensures.value c.self.invariant.0
+
 pub invariant_of-self : goal.invariant_of-self
 invariant_of-self c =
     let new = c.take_first.new.room in
     let len : length new ≡ c.self.inside.room.len = c.take_first.auto.room ∙ c.deref_mut.ensures.len in
-    let count : length new ≡ length c.self.inside.room.items = c.take_first.auto.room ∙ ap (λ (xs : List Box). length xs) c.deref_mut.ensures.value in
     let boxes : c.and-self-inside.result.boxes ≡ c.self.inside.counts.boxes + c.of.result.boxes = ap (λ (k : Counts). k.boxes) c.and-self-inside.ensures in
     let one : c.of.result.boxes ≡ (counts_by c.args.line).boxes = ap (λ (k : Counts). k.boxes) c.of.ensures in
-    let few = one_box c.args.line in
-    let was : IsRoom c.self.inside.room.items c.self.inside.first × (c.self.inside.counts.boxes ≤ c.self.inside.nodes) = c.self.invariant in
-    let within = c.in-Ok.ensures.within in
-    let alike = c.take_first.ensures.alike in
-    rw (written_back new _ _ len) (record { size = count ∙ was.0.size; within = omega (arith, within, count, was.0.size, c.take_first.auto.room); alike = alike }, omega (arith, boxes, one, few, was.1))
+    rw (written_back new _ _ len) (c.in-Ok.ensures.room, omega (arith, boxes, one, one_box c.args.line, c.self.invariant.1))
 
 pub invariant_of-self-in-Err : goal.invariant_of-self-in-Err
 invariant_of-self-in-Err c =
     let new = c.take_first.new.room in
     let len : length new ≡ c.self.inside.room.len = c.take_first.auto.room ∙ c.deref_mut.ensures.len in
-    let count : length new ≡ length c.self.inside.room.items = c.take_first.auto.room ∙ ap (λ (xs : List Box). length xs) c.deref_mut.ensures.value in
-    let was : IsRoom c.self.inside.room.items c.self.inside.first × (c.self.inside.counts.boxes ≤ c.self.inside.nodes) = c.self.invariant in
-    rw (written_back new _ _ len) (record { size = count ∙ was.0.size; within = was.0.within; alike = c.take_first.ensures.alike }, was.1)
+    rw (written_back new _ _ len) (c.in-Err.ensures.kept, c.self.invariant.1)
 
 pub returns-in-Ok-clause-fits : goal.returns-in-Ok-clause-fits
 returns-in-Ok-clause-fits c =
