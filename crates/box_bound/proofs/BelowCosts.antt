@@ -2,13 +2,13 @@
 use Rattle.std.specs.Prelude.{ℤ, pos, ◌≤ℤ◌}
 use Rattle.std.specs.Int.{div_ceil}
 use Rattle.std.specs.List.{Contains}
-use Rattle.std.proofs.Common.{◌≡◌, ℕ, ◌*◌, ◌/◌, ◌≤◌, arith, get_or, inl}
+use Rattle.std.proofs.Common.{ℕ, ◌*◌, ◌/◌, ◌≤◌, arith, get_or, inl}
 use Rattle.std.proofs.Math.Nat.{div-mul-le_self, mul-le-mul_left}
 use Rattle.std.proofs.lemmas.List.Elements.{Contains-get_or}
 use Rattle.coord_model.specs.Choice.{Settings}
 use Rattle.coord_model.specs.declared.study.Term.{Term}
-use Rattle.coord_model.specs.Allowed.{dial_of}
 use Rattle.coord_model.specs.Cost.{weight_of}
+use Rattle.coord_model.specs.Dial.{dial_of}
 use Rattle.margin_rows.specs.Case.{Case, FitsCase, terms_in}
 use Rattle.margin_rows.specs.FirstBox.{IsInFirstBox}
 use Rattle.margin_rows.specs.Margin.{time_of}

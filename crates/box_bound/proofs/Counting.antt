@@ -5,10 +5,10 @@ use Rattle.std.proofs.Common.{◌≡◌, ℕ, ◌+◌, ◌*◌, ◌<◌, Bool, t
 use Rattle.std.proofs.lemmas.List.{take_more_set, append-nil}
 use Rattle.std.proofs.lemmas.List.Elements.{All-filter, filter_more}
 use Rattle.std.proofs.lemmas.List.Sums.{sum_by-cons, length-filter, count_by-le-length}
+use Rattle.coord_model.specs.Dial.{dial_at_step}
 use Rattle.coord_model.specs.declared.weights.Weight.{Weight}
 use Rattle.margin_rows.specs.Case.{Case, row_at, rows_in}
 use Rattle.margin_rows.specs.Demands.{fast_part, slow_part}
-use Rattle.margin_rows.specs.Dial.{dial_at_step}
 use Rattle.margin_rows.specs.Price.{term_sum}
 use Rattle.margin_rows.specs.Times.{time_at}
 use Rattle.margin_rows.specs.declared.span.Steps.{Steps}

@@ -11,9 +11,9 @@ use Rattle.std.proofs.lemmas.Int.{ints}
 use Rattle.std.proofs.lemmas.List.Elements.{All-head, All-tail, Contains-get_or}
 use Rattle.std.proofs.lemmas.List.Sums.{sum_by-cons}
 use Rattle.std.proofs.lemmas.Option.{slice_get_within, slice_get-get_or}
-use Rattle.coord_model.specs.Allowed.{dial_of}
 use Rattle.coord_model.specs.Choice.{Settings}
 use Rattle.coord_model.specs.Cost.{CostsAtLeast, weight_of}
+use Rattle.coord_model.specs.Dial.{dial_at_step, dial_of}
 use Rattle.coord_model.specs.declared.study.RowKind.{RowKind}
 use Rattle.coord_model.specs.declared.study.RowKind.TheVariants.{Interval, Least, Most}
 use Rattle.coord_model.specs.declared.study.Term.{Term}
@@ -21,7 +21,6 @@ use Rattle.coord_model.specs.declared.weights.Weight.{Weight}
 use Rattle.margin_rows.specs.Box.{Box, IsIn, LiesIn, FitsBox}
 use Rattle.margin_rows.specs.Case.{Case, FitsCase, row_at, rows_in, terms_in}
 use Rattle.margin_rows.specs.Demands.{asked_ps, fast_part, granted_ps, row_constant, slow_part}
-use Rattle.margin_rows.specs.Dial.{dial_at_step}
 use Rattle.margin_rows.specs.Margin.{time_of, MeetsLoosely}
 use Rattle.margin_rows.specs.Price.{least_sum, lower_cost_of, term_part}
 use Rattle.margin_rows.specs.Times.{time_at}

@@ -5,10 +5,10 @@ use Rattle.std.proofs.Common.{◌≡◌, ℕ, suc, ◌+◌, ◌*◌, ◌^◌, �
 use Rattle.std.proofs.lemmas.Bool.{cases_lt}
 use Rattle.std.proofs.lemmas.Int.{ints}
 use Rattle.std.proofs.lemmas.Nat.{mul-le}
+use Rattle.coord_model.specs.Dial.{dial_at_step}
 use Rattle.coord_model.specs.declared.weights.Weight.{Weight}
 use Rattle.margin_rows.specs.Box.{IsIn}
 use Rattle.margin_rows.specs.Case.{Case}
-use Rattle.margin_rows.specs.Dial.{dial_at_step}
 use Rattle.margin_rows.specs.declared.span.Span.{Span}
 use Rattle.margin_rows.specs.declared.span.Steps.{Steps}
 use Rattle.box_bound.specs.RelayParts.{IsEnd, IsLeastPart, at_dial, gain, loss, part}

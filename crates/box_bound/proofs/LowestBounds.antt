@@ -9,13 +9,12 @@ use Rattle.std.proofs.lemmas.List.{get_or-map}
 use Rattle.std.proofs.lemmas.List.Elements.{Contains-get_or}
 use Rattle.std.proofs.lemmas.Option.{slice_get_within}
 use Rattle.coord_model.proofs.Quotients.{ceil_covers, ceil_least}
-use Rattle.coord_model.specs.Allowed.{dial_of}
 use Rattle.coord_model.specs.Choice.{Settings}
 use Rattle.coord_model.specs.Cost.{weight_of}
+use Rattle.coord_model.specs.Dial.{dial_at_step, dial_of}
 use Rattle.coord_model.specs.declared.study.Term.{Term}
 use Rattle.margin_rows.specs.Box.{Box, FitsBox, HasNoEmptySpan, no_steps}
 use Rattle.margin_rows.specs.Case.{Case, FitsCase, rows_in, terms_in}
-use Rattle.margin_rows.specs.Dial.{dial_at_step}
 use Rattle.margin_rows.specs.FirstBox.{IsInFirstBox}
 use Rattle.margin_rows.specs.Least.{IsStrict, IsStrictLeastOf}
 use Rattle.margin_rows.specs.Lowest.{HasOnePickup, lowest_of}

@@ -3,11 +3,11 @@
 -- lambda, and for the rows by their weights: for those that ask its relay to be fast with the lower
 -- end, against those that ask it to be slow with the upper end.
 use Rattle.std.specs.Prelude.{◌≡◌, ℕ, suc, ◌+◌, ◌*◌, ◌==◌, ◌⊎◌, ℤ, pos, ◌-ℤ◌, ◌≤ℤ◌, List, sum_by, if◌then◌else◌}
+use Rattle.coord_model.specs.Dial.{dial_at_step}
 use Rattle.coord_model.specs.declared.weights.Weight.{Weight}
 use Rattle.margin_rows.specs.Box.{Box, IsIn}
 use Rattle.margin_rows.specs.Case.{Case, row_at}
 use Rattle.margin_rows.specs.Demands.{fast_part, slow_part}
-use Rattle.margin_rows.specs.Dial.{dial_at_step}
 use Rattle.margin_rows.specs.Price.{term_sum}
 use Rattle.margin_rows.specs.Times.{time_at}
 use Rattle.margin_rows.specs.Within.{span_of}

@@ -6,13 +6,13 @@ use Rattle.std.proofs.lemmas.Bool.{cases_eq}
 use Rattle.std.proofs.lemmas.List.{length-map, length-set, get_or-set_same, get_or-set_other, get_or-map}
 use Rattle.std.proofs.lemmas.Nat.{mul-le}
 use Rattle.coord_model.specs.Choice.{Settings}
+use Rattle.coord_model.specs.Dial.{dial_at_step}
 use Rattle.coord_model.specs.StudyData.{StudyData}
 use Rattle.coord_model.specs.declared.study.Row.{Row}
 use Rattle.coord_model.specs.declared.study.RowKind.{RowKind}
 use Rattle.coord_model.specs.declared.study.RowKind.TheVariants.{Interval, Least, Most}
 use Rattle.margin_rows.specs.Box.{Box, IsIn, LiesIn, FitsBox, IsDialStep, HasNoEmptySpan, IsFilled, no_steps}
 use Rattle.margin_rows.specs.Case.{Case, rows_in, FitsCase}
-use Rattle.margin_rows.specs.Dial.{dial_at_step}
 use Rattle.margin_rows.specs.FirstBox.{IsFirstStep}
 use Rattle.margin_rows.specs.Demands.{asked_ps, fast_part, granted_ps, slow_part}
 use Rattle.margin_rows.specs.Margin.{MeetsLoosely}

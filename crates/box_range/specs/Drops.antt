@@ -10,7 +10,8 @@ use Rattle.box_range.specs.Kinds.{step_of, with_span, HasSpan, Side, end_of, wit
 use Rattle.box_range.specs.declared.kind.Kind.{Kind}
 
 -- some choice of the box with this step of the relay loosely meets the row
-pub record CanMeet (case : Case) (box : Box) (kind : Kind) (relay step : ℕ) (row : Row) : Type 0 where
+pub record CanMeet (case : Case) (box : Box) (kind : Kind) (relay step : ℕ)
+    (row : Row) : Type 0 where
   pub settings : Settings
   pub lies : LiesIn box settings
   pub has : step_of kind settings relay ≡ step
@@ -39,7 +40,8 @@ dropped case box drop = with_span drop.kind box drop.relay (without_end drop.sid
 -- drops, perhaps none, lead from one box to the other
 pub data Drops (case : Case) : Box → Box → Type 0 where
   none : {box : Box} → Drops case box box
-  next : {box later : Box} (drop : Drop case box) → Drops case (dropped case box drop) later → Drops case box later
+  next : {box later : Box} (drop : Drop case box) → Drops case (dropped case box drop) later
+      → Drops case box later
 
 -- the box is tight: no span is empty and no end is droppable
 pub record IsTight (case : Case) (box : Box) : Type 0 where

@@ -20,7 +20,8 @@ pub record IsSettling (case : Case) (row : Row) (box later : Box) (moved : Moved
   pub cut : IsCut case row box later
   pub filled : IsFilled case later
   pub settled : IsSettled case later row
-  pub elsewhere : (relay : ℕ) → IsUnmoved row moved relay → (kind : Kind) → span_at kind later relay ≡ span_at kind box relay
+  pub elsewhere : (relay : ℕ) → IsUnmoved row moved relay → (kind : Kind)
+      → span_at kind later relay ≡ span_at kind box relay
   pub unchanged : moved.backup ≡ false → moved.primary ≡ false → later ≡ box
   pub fewer : (moved.backup ≡ true) ⊎ (moved.primary ≡ true) → size later < size box
 

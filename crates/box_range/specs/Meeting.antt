@@ -1,12 +1,12 @@
 -- Whether a row can be met in a box, by the steps of its two relays (ours).
 use Rattle.std.specs.Prelude.{◌≡◌, ℕ, ◌-◌, ◌*◌, ◌<◌, Some, length, slice_get}
 use Rattle.coord_model.specs.Choice.{Settings}
+use Rattle.coord_model.specs.Dial.{dial_at_step}
 use Rattle.coord_model.specs.declared.study.Row.{Row}
 use Rattle.coord_model.specs.declared.study.RowKind.{RowKind}
 use Rattle.coord_model.specs.declared.study.RowKind.TheVariants.{Interval, Least, Most}
 use Rattle.margin_rows.specs.Box.{Box, LiesIn, IsDialStep}
 use Rattle.margin_rows.specs.Case.{Case, rows_in}
-use Rattle.margin_rows.specs.Dial.{dial_at_step}
 use Rattle.margin_rows.specs.FirstBox.{IsFirstStep}
 use Rattle.margin_rows.specs.Margin.{Meets, MeetsLoosely}
 use Rattle.margin_rows.specs.Times.{time_at}
@@ -71,5 +71,8 @@ Asks Most Primary = Unit {0}
 -- the row is loosely met with these steps of its relays
 abbrev pub MeetsWith : Case → Row → RowSteps → Type 0
 MeetsWith case row steps =
-    Meets case.study row (dial_at_step case.study row.backup steps.backup_dial * (time_at case row.fault row.backup steps.backup_pickup).upper)
-    (dial_at_step case.study row.primary steps.primary_dial * (time_at case row.fault row.primary steps.primary_pickup).lower)
+    Meets case.study row
+    (dial_at_step case.study row.backup steps.backup_dial
+    * (time_at case row.fault row.backup steps.backup_pickup).upper)
+    (dial_at_step case.study row.primary steps.primary_dial
+    * (time_at case row.fault row.primary steps.primary_pickup).lower)

@@ -10,7 +10,8 @@ use Rattle.box_range.specs.declared.round.Progress.TheVariants.{Emptied, Kept, A
 
 -- a relay of the row is flagged
 abbrev pub IsDue : List Bool → Row → Type 0
-IsDue flags row = (slice_index_or flags row.backup false ≡ true) ⊎ (slice_index_or flags row.primary false ≡ true)
+IsDue flags row =
+    (slice_index_or flags row.backup false ≡ true) ⊎ (slice_index_or flags row.primary false ≡ true)
 
 -- the row is due, or settled in the box
 abbrev pub IsDueOrSettled : Case → Box → List Bool → Row → Type 0
@@ -24,24 +25,28 @@ pub record HasPlaces (flags : List Bool) (row : Row) : Type 0 where
 -- of the row's relays those that lost steps are flagged too, and no flag is lost
 pub record AreFlagged (row : Row) (moved : Moved) (flags later : List Bool) : Type 0 where
   pub count : length later ≡ length flags
-  pub kept : (relay : ℕ) → slice_index_or flags relay false ≡ true → slice_index_or later relay false ≡ true
+  pub kept : (relay : ℕ) → slice_index_or flags relay false ≡ true
+      → slice_index_or later relay false ≡ true
   pub backup : moved.backup ≡ true → slice_index_or later row.backup false ≡ true
   pub primary : moved.primary ≡ true → slice_index_or later row.primary false ≡ true
   pub unchanged : moved.backup ≡ false → moved.primary ≡ false → later ≡ flags
 
 -- nothing changed, and the row is settled
-pub record IsIdle (case : Case) (row : Row) (box later : Box) (flags later_flags : List Bool) : Type 0 where
+pub record IsIdle (case : Case) (row : Row) (box later : Box)
+    (flags later_flags : List Bool) : Type 0 where
   pub same_box : later ≡ box
   pub same_flags : later_flags ≡ flags
   pub settled : IsSettled case later row
 
 -- some span lost steps; the row is settled, and each other that was settled is so still or is due
-pub record IsBusy (case : Case) (row : Row) (box later : Box) (flags later_flags : List Bool) : Type 0 where
+pub record IsBusy (case : Case) (row : Row) (box later : Box)
+    (flags later_flags : List Bool) : Type 0 where
   pub filled : IsFilled case later
   pub fewer : size later < size box
   pub count : length later_flags ≡ length flags
   pub settled : IsSettled case later row
-  pub others : (other : Row) → Contains (rows_in case) other → IsDueOrSettled case box flags other → IsDueOrSettled case later later_flags other
+  pub others : (other : Row) → Contains (rows_in case) other → IsDueOrSettled case box flags other
+      → IsDueOrSettled case later later_flags other
 
 -- what a visit of the row made
 abbrev pub IsVisit : Case → Row → Box → Box → List Bool → List Bool → Progress → Type 0

@@ -12,11 +12,13 @@ use Rattle.box_range.specs.declared.kind.Kind.{Kind}
 
 -- some choice of the box with the backup's lowest step meets the row
 abbrev pub MeetsAtLow : Case → Box → Row → Kind → Type 0
-MeetsAtLow case box row kind = CanMeet case box kind row.backup (span_at kind box row.backup).low row
+MeetsAtLow case box row kind =
+    CanMeet case box kind row.backup (span_at kind box row.backup).low row
 
 -- some choice of the box with the primary's highest step meets the row
 abbrev pub MeetsAtHigh : Case → Box → Row → Kind → Type 0
-MeetsAtHigh case box row kind = CanMeet case box kind row.primary ((span_at kind box row.primary).past - 1) row
+MeetsAtHigh case box row kind =
+    CanMeet case box kind row.primary ((span_at kind box row.primary).past - 1) row
 
 -- the row can be met with each of the four ends that it can make useless alone
 pub record IsSettled (case : Case) (box : Box) (row : Row) : Type 0 where
@@ -26,11 +28,13 @@ pub record IsSettled (case : Case) (box : Box) (row : Row) : Type 0 where
 -- drops lead to the later box, and no choice that meets the row is lost
 pub record IsCut (case : Case) (row : Row) (box later : Box) : Type 0 where
   pub drops : Drops case box later
-  pub kept : (settings : Settings) → LiesIn box settings → MeetsLoosely case settings row → LiesIn later settings
+  pub kept : (settings : Settings) → LiesIn box settings → MeetsLoosely case settings row
+      → LiesIn later settings
 
 -- the boxes have the same spans but for one relay
 abbrev pub DiffersAt : ℕ → Box → Box → Type 0
-DiffersAt changed box later = (kind : Kind) (relay : ℕ) → relay ≢ changed → span_at kind later relay ≡ span_at kind box relay
+DiffersAt changed box later =
+    (kind : Kind) (relay : ℕ) → relay ≢ changed → span_at kind later relay ≡ span_at kind box relay
 
 -- the number of steps in a span
 abbrev pub width : Steps → ℕ

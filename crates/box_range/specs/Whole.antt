@@ -7,4 +7,5 @@ use Rattle.box_range.specs.Drops.{MeetsAllLoosely}
 
 -- the box has all settings of the first box with pickups of its spans that loosely meet every row
 pub record IsWhole (case : Case) (box : Box) : Type 0 where
-  pub holds : (settings : Settings) → IsInFirstBox case settings → AreIn box.pickup settings.pickup → MeetsAllLoosely case settings → LiesIn box settings
+  pub holds : (settings : Settings) → IsInFirstBox case settings → AreIn box.pickup settings.pickup
+      → MeetsAllLoosely case settings → LiesIn box settings

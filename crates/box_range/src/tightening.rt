@@ -11,10 +11,8 @@ ghost use Rattle.box_range.specs.Whole.{IsWhole};
 ghost use Rattle.box_range.specs.declared.tightening.Tightened.TheVariants.{Tight, Emptied};
 
 use crate::round::{Progress, round};
+use coord_model::limits::MOST_RELAYS;
 use margin_rows::{Instance, Ranges};
-
-/// The most relays that a study has.
-const MOST_RELAYS: usize = 96;
 
 /// What tightening a box came to.
 #[derive(Clone, Copy, PartialEq, Eq, Debug)]
@@ -74,9 +72,9 @@ fn settle_rows(inst: &Instance, ranges: &mut Ranges, rows: u16) -> Tightened
     requires rows { rows ≡ length (rows_in inst.now) }
     ensures { HasEnded inst.now ranges.old ranges.new result }
 {
-    let mut due = [true; MOST_RELAYS];
+    let mut due = [true; MOST_RELAYS as usize];
     'rounds: loop {
-        let mut next = [false; MOST_RELAYS];
+        let mut next = [false; MOST_RELAYS as usize];
         match round(inst, ranges, rows, &due, &mut next) {
             Progress::Emptied => return Tightened::Emptied,
             Progress::Kept => return Tightened::Tight,

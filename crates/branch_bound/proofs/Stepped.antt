@@ -4,12 +4,13 @@ use Rattle.std.proofs.lemmas.Bool.{cases_eq}
 use Rattle.coord_model.specs.Tree.{Tree}
 use Rattle.margin_rows.specs.Box.{Box, IsFirstBox}
 use Rattle.margin_rows.specs.Case.{Case, FitsCase}
+use Rattle.margin_rows.specs.Gap.{IsGapEnough}
 use Rattle.margin_rows.proofs.Spanned.{first_box_fits, first_box_only}
 use Rattle.search_tree.specs.Harvest.{tree_of}
 use Rattle.search_tree.specs.Plan.{Plan, entries, opened, plan_of}
 use Rattle.std.proofs.lemmas.List.Elements.{All-contains}
 use Rattle.search_tree.specs.declared.slot.Slot.{Slot}
-use Rattle.step_rules.specs.Issuing.{IsGapOf, settings_of}
+use Rattle.step_rules.specs.Issuing.{settings_of}
 use Rattle.step_rules.specs.OpenBoxes.{IsOpenBox}
 use Rattle.step_rules.specs.Usable.{leaf_weights, open_with, plain_weights}
 use Rattle.step_rules.specs.declared.issued.Issued.{Issued}
@@ -80,7 +81,7 @@ room search is goes_on = elim (cases_eq search.boxes search.budget) [
     within = omega (arith, is.sound.within, is.counted)
 
 -- a search of one open box
-module _ (case : Case) (gap budget : ℕ) (value : OpenBox) (slots : List (Slot OpenBox)) (limits : FitsCase case) (covers : IsGapOf case gap) (some : 1 ≤ budget) (few : budget ≤ 200000)
+module _ (case : Case) (gap budget : ℕ) (value : OpenBox) (slots : List (Slot OpenBox)) (limits : FitsCase case) (covers : IsGapEnough case gap) (some : 1 ≤ budget) (few : budget ≤ 200000)
     (open_box : IsOpenBox case value) (is_first : IsFirstBox case value.ranges) (weights : leaf_weights value.weights ≡ plain_weights)
     (plan : plan_of slots ≡ opened 0 value.bound value) (count : length slots ≡ 1) where
   abbrev pub start : Search

@@ -2,11 +2,11 @@
 use Rattle.std.specs.Prelude.{◌≡◌, ℕ, suc, ◌+◌, ◌<◌, ◌≤◌, ⊤, List, Option, Some, Result, Ok, Err, length, All, IfSome}
 use Rattle.margin_rows.specs.Box.{Box, IsFirstBox}
 use Rattle.margin_rows.specs.Case.{Case}
-use Rattle.margin_rows.specs.Gap.{IsLeastGap}
+use Rattle.margin_rows.specs.Gap.{IsGapEnough, IsLeastGap}
 use Rattle.search_tree.specs.Plan.{entries, plan_of}
 use Rattle.search_tree.specs.Steps.{IsLead}
 use Rattle.search_tree.specs.declared.slot.Slot.{Slot}
-use Rattle.step_rules.specs.Issuing.{IsGapOf, IsPriced, settings_of}
+use Rattle.step_rules.specs.Issuing.{IsPriced, settings_of}
 use Rattle.step_rules.specs.Rules.{Handled}
 use Rattle.step_rules.specs.declared.issued.Issued.{Issued}
 use Rattle.step_rules.specs.declared.open_box.OpenBox.{OpenBox}
@@ -59,5 +59,5 @@ IsRefused case gap NoMemory = ⊤
 
 -- a search begins, or is refused
 abbrev pub IsBegun : Case → ℕ → ℕ → Result Search SearchFault → Type 0
-IsBegun case gap budget (Ok search) = IsAtStart case gap budget search × IsGapOf case gap
+IsBegun case gap budget (Ok search) = IsAtStart case gap budget search × IsGapEnough case gap
 IsBegun case gap budget (Err fault) = IsRefused case gap fault

@@ -9,11 +9,11 @@ use Rattle.coord_model.specs.declared.choice.Ending.TheVariants.{BudgetSpent, Ha
 use Rattle.margin_rows.specs.Box.{Box, IsFirstBox}
 use Rattle.margin_rows.specs.Case.{Case, rows_in}
 use Rattle.margin_rows.specs.FirstBox.{IsInFirstBox}
+use Rattle.margin_rows.specs.Gap.{IsGapEnough}
 use Rattle.margin_rows.specs.Margin.{MeetsStrictly}
 use Rattle.margin_rows.specs.Price.{cost_of}
 use Rattle.cert_tree.specs.Endings.{boxes, ending_of, has_open_leaf}
 use Rattle.cert_tree.specs.Holding.{Holds}
-use Rattle.step_rules.specs.Issuing.{IsGapOf}
 use Rattle.branch_bound.specs.Advancing.{IsRefused}
 use Rattle.branch_bound.specs.Choices.{choices}
 use Rattle.branch_bound.specs.Facts.{IsSound}
@@ -65,5 +65,5 @@ pub record IsReached (case : Case) (gap budget : ℕ) (outcome : Outcome) : Type
 
 -- a search ends with such an outcome, if the gap is at least the least gap; else it is refused
 abbrev pub Ends : Case → ℕ → ℕ → Result Outcome SearchFault → Type 0
-Ends case gap budget (Ok outcome) = IsReached case gap budget outcome × IsGapOf case gap
+Ends case gap budget (Ok outcome) = IsReached case gap budget outcome × IsGapEnough case gap
 Ends case gap budget (Err fault) = IsRefused case gap fault

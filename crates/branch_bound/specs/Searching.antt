@@ -4,12 +4,13 @@ use Rattle.std.specs.Prelude.{◌≡◌, ℕ, ◌+◌, ◌*◌, ◌≤◌, ⊤, 
 use Rattle.coord_model.specs.Tree.{Tree}
 use Rattle.margin_rows.specs.Box.{Box, IsFirstBox}
 use Rattle.margin_rows.specs.Case.{Case, FitsCase}
+use Rattle.margin_rows.specs.Gap.{IsGapEnough}
 use Rattle.cert_tree.specs.Endings.{boxes}
 use Rattle.cert_tree.specs.Holding.{AreTightHalves}
 use Rattle.search_tree.specs.Harvest.{tree_of}
 use Rattle.search_tree.specs.Plan.{Plan, closed, opened, plan_of, split}
 use Rattle.search_tree.specs.declared.slot.Slot.{Slot}
-use Rattle.step_rules.specs.Issuing.{IsGapOf, IsPriced, settings_of}
+use Rattle.step_rules.specs.Issuing.{IsPriced, settings_of}
 use Rattle.step_rules.specs.OpenBoxes.{IsOpenBox}
 use Rattle.step_rules.specs.Usable.{leaf_weights, open_with}
 use Rattle.step_rules.specs.declared.issued.Issued.{Issued}
@@ -47,7 +48,7 @@ Placed case box (opened number bound value) =
 -- the search is as its steps leave it
 pub record IsSearch (search : Search) : Type 0 where
   pub limits : FitsCase search.case
-  pub gap_covers : IsGapOf search.case search.gap
+  pub gap_covers : IsGapEnough search.case search.gap
   pub some_budget : 1 ≤ search.budget
   pub budget_small : search.budget ≤ 200000
   pub first : Box

@@ -1,9 +1,10 @@
 //! A search, step by step.
 ghost use Rattle.std.specs.Prelude.{◌≡◌, ◌+◌, ◌≤◌, ◌^◌, ◌↔◌, length, IfOk, IfSome, OnOk, OnErr, IsTrue};
 ghost use Rattle.margin_rows.specs.Box.{Box};
+ghost use Rattle.margin_rows.specs.Gap.{IsGapEnough};
 ghost use Rattle.search_tree.specs.Plan.{plan_of};
 ghost use Rattle.search_tree.specs.Steps.{IsOpen};
-ghost use Rattle.step_rules.specs.Issuing.{IsGapOf, IsPriced};
+ghost use Rattle.step_rules.specs.Issuing.{IsPriced};
 ghost use Rattle.branch_bound.specs.Advancing.{IsAdvance};
 ghost use Rattle.branch_bound.specs.Searching.{Placed};
 
@@ -163,7 +164,7 @@ fn advance<A: Adviser>(
     requires room { length tree.old + 2 ≤ 400001 }
     requires placed { (first : Box) × Placed inst.now first (plan_of tree.old) }
     requires priced { IfSome issued.old (IsPriced inst.now) }
-    requires gap { IsGapOf inst.now gap }
+    requires gap { IsGapEnough inst.now gap }
 
     ensures advanced { OnOk result (IsAdvance inst.now gap issued.old issued.new tree.old tree.new) }
     ensures unchanged { OnErr result (tree.new ≡ tree.old) }

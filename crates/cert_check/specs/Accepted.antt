@@ -2,7 +2,7 @@
 use Rattle.std.specs.Prelude.{◌≡◌, ℕ, List, Option, Some, None, Result, Ok, Err, IfSome}
 use Rattle.coord_model.specs.Allowed.{IsAllowed}
 use Rattle.coord_model.specs.Choice.{Settings}
-use Rattle.coord_model.specs.Cost.{CostsAtLeast, CostsAtMost}
+use Rattle.coord_model.specs.Cost.{CostsAtMost, IsBelowAll}
 use Rattle.cert_text.specs.CertData.{CertData}
 use Rattle.cert_tree.specs.Holding.{Fails}
 use Rattle.cert_tree.specs.declared.kind.NodeKind.{NodeKind}
@@ -20,7 +20,7 @@ use Rattle.cert_check.specs.declared.refusal.CheckRefusal.TheVariants as no
 
 -- with a bound, all allowed settings cost at least that; with none, no settings are allowed
 abbrev pub BoundsAll : Case → Option ℕ → Type 0
-BoundsAll case (Some bound) = (settings : Settings) → IsAllowed case.study case.currents settings → CostsAtLeast case.study case.currents settings bound
+BoundsAll case (Some bound) = IsBelowAll case.study case.currents bound
 BoundsAll case None = (settings : Settings) → ¬ (IsAllowed case.study case.currents settings)
 
 -- the bytes are the text of a certificate that is right and makes this claim; printed settings are allowed and cost at
@@ -47,7 +47,8 @@ pub record HasClaimFault (case : Case) (bytes : List ℕ) (kind : ClaimKind) : T
   pub text : IsTextOf cert bytes
   pub bound : Option ℕ
   pub holds : HoldsWith case cert bound
-  pub fault : IsFirstClaimFault case cert.head cert.settings (found_of cert.tree bound cert.head) kind
+  pub fault : IsFirstClaimFault case cert.head cert.settings
+      (found_of cert.tree bound cert.head) kind
 
 -- what is answered of bytes that were read to their end
 abbrev pub Answers : Case → List ℕ → Result Claim CheckRefusal → Type 0

@@ -11,7 +11,8 @@ abbrev pub HasNoFeed : List ℕ → Type 0
 HasNoFeed bytes = AllByRecursion (λ b. b ≢ 10) bytes
 
 -- the lines begin a certificate in which this line, with its number and its kind, does not go on
-pub record IsBadLine (before : List (List ℕ)) (here : List ℕ) (line : ℕ) (kind : CertKind) : Type 0 where
+pub record IsBadLine (before : List (List ℕ)) (here : List ℕ) (line : ℕ)
+    (kind : CertKind) : Type 0 where
   pub number : line ≡ length before + 1
   pub due : IsDue before kind
   pub stops : ¬ Begins (before ++ here ∷ [])

@@ -17,7 +17,8 @@ pub record IsWhole (name : List ℕ) (before after : FolderState) (bytes : List 
   pub within : length bytes ≤ 536870912
 
 -- the file was read to its end, and this is answered of its bytes
-pub record AnswersWhole (case : Case) (name : List ℕ) (before after : FolderState) (result : Result Claim CheckRefusal) : Type 0 where
+pub record AnswersWhole (case : Case) (name : List ℕ) (before after : FolderState)
+    (result : Result Claim CheckRefusal) : Type 0 where
   pub bytes : List ℕ
   pub whole : IsWhole name before after bytes
   pub answer : Answers case bytes result
@@ -26,7 +27,8 @@ pub record AnswersWhole (case : Case) (name : List ℕ) (before after : FolderSt
 abbrev pub IsStopped : List ℕ → FolderState → FolderState → CheckRefusal → Type 0
 IsStopped name before after no.Missing = IsMissing name before after
 IsStopped name before after no.ReadFault = Rose before.reads after.reads
-IsStopped name before after (no.TooLong limit) = (limit ≡ 536870912) × Told before after (λ m. IsLonger m name limit)
+IsStopped name before after (no.TooLong limit) =
+    (limit ≡ 536870912) × Told before after (λ m. IsLonger m name limit)
 IsStopped name before after _ = ⊥
 
 -- what is answered of a file: why the reading ended early, or what its bytes are
@@ -34,12 +36,14 @@ abbrev pub Checks : Case → List ℕ → FolderState → FolderState → Result
 Checks case name before after (Ok claim) = AnswersWhole case name before after (Ok claim)
 Checks case name before after (Err no.Missing) = IsStopped name before after no.Missing
 Checks case name before after (Err no.ReadFault) = IsStopped name before after no.ReadFault
-Checks case name before after (Err (no.TooLong limit)) = IsStopped name before after (no.TooLong limit)
+Checks case name before after (Err (no.TooLong limit)) =
+    IsStopped name before after (no.TooLong limit)
 Checks case name before after (Err no.NoMemory) = ⊤
 Checks case name before after (Err refusal) = AnswersWhole case name before after (Err refusal)
 
 -- the file was read to its end, as the text
-pub record HasRead (case : Case) (name : List ℕ) (before after : FolderState) (text : TextCheck) : Type 0 where
+pub record HasRead (case : Case) (name : List ℕ) (before after : FolderState)
+    (text : TextCheck) : Type 0 where
   pub bytes : List ℕ
   pub whole : IsWhole name before after bytes
   pub reads : Reads case text bytes text.lines.fault

@@ -6,11 +6,11 @@ use Rattle.coord_model.specs.Choice.{Settings}
 use Rattle.cert_text.specs.declared.kinds.CertHead.{CertHead}
 use Rattle.margin_rows.specs.Case.{Case, rows_in}
 use Rattle.margin_rows.specs.FirstBox.{IsInFirstBox}
-use Rattle.margin_rows.specs.Gap.{IsLeastGap}
+use Rattle.margin_rows.specs.Gap.{IsGapEnough, IsLeastGap}
 use Rattle.margin_rows.specs.Margin.{MeetsStrictly}
 use Rattle.margin_rows.specs.Price.{cost_of}
 use Rattle.margin_rows.specs.Unmet.{IsFirstUnmet}
-use Rattle.cert_check.specs.Claims.{AreSettingsRight, IsFirstOff, IsGapEnough, IsOfStudy, IsPrintedAnd, study_head}
+use Rattle.cert_check.specs.Claims.{AreSettingsRight, IsFirstOff, IsOfStudy, IsPrintedAnd, study_head}
 use Rattle.cert_check.specs.declared.found.Found.{Found}
 use Rattle.cert_check.specs.declared.kind.ClaimKind.{ClaimKind}
 use Rattle.cert_check.specs.declared.kind.ClaimKind.TheVariants.{Study, Relays, Step, Row, Cost, Boxes, Bound, Gap, EndingIs}
@@ -27,7 +27,8 @@ IsFirstOfSettings case (Relays printed found) settings cost =
     Differ printed found (length settings.pickup) (length case.study.relays)
 IsFirstOfSettings case (Step relay) settings cost =
     (length settings.pickup ≡ length case.study.relays) × IsFirstOff case settings relay
-IsFirstOfSettings case (Row row) settings cost = IsInFirstBox case settings × IsFirstUnmet case settings row
+IsFirstOfSettings case (Row row) settings cost =
+    IsInFirstBox case settings × IsFirstUnmet case settings row
 IsFirstOfSettings case (Cost printed found) settings cost =
     IsInFirstBox case settings × All (MeetsStrictly case settings) (rows_in case)
     × Differ printed found cost (cost_of case settings)
@@ -50,9 +51,13 @@ IsFirstOfTree case head given _ = ⊥
 abbrev pub IsFirstClaimFault : Case → CertHead → Option Settings → Found → ClaimKind → Type 0
 IsFirstClaimFault case head settings given (Study printed found) =
     (printed ≡ head.study) × (found ≡ study_head case) × ¬ (IsOfStudy case printed)
-IsFirstClaimFault case head settings given (Boxes p f) = AreSettingsRight case head settings × IsFirstOfTree case head given (Boxes p f)
-IsFirstClaimFault case head settings given (Bound p f) = AreSettingsRight case head settings × IsFirstOfTree case head given (Bound p f)
-IsFirstClaimFault case head settings given (Gap p l) = AreSettingsRight case head settings × IsFirstOfTree case head given (Gap p l)
-IsFirstClaimFault case head settings given (EndingIs p f) = AreSettingsRight case head settings × IsFirstOfTree case head given (EndingIs p f)
+IsFirstClaimFault case head settings given (Boxes p f) =
+    AreSettingsRight case head settings × IsFirstOfTree case head given (Boxes p f)
+IsFirstClaimFault case head settings given (Bound p f) =
+    AreSettingsRight case head settings × IsFirstOfTree case head given (Bound p f)
+IsFirstClaimFault case head settings given (Gap p l) =
+    AreSettingsRight case head settings × IsFirstOfTree case head given (Gap p l)
+IsFirstClaimFault case head settings given (EndingIs p f) =
+    AreSettingsRight case head settings × IsFirstOfTree case head given (EndingIs p f)
 IsFirstClaimFault case head settings given kind =
     IsOfStudy case head.study × IsPrintedAnd settings head.cost (IsFirstOfSettings case kind)

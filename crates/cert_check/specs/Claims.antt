@@ -6,14 +6,18 @@ use Rattle.cert_text.specs.declared.kinds.CertHead.{CertHead}
 use Rattle.margin_rows.specs.Box.{IsDialStep}
 use Rattle.margin_rows.specs.Case.{Case, rows_in}
 use Rattle.margin_rows.specs.FirstBox.{IsFirstStep, IsInFirstBox}
-use Rattle.margin_rows.specs.Gap.{IsLeastGap}
+use Rattle.margin_rows.specs.Gap.{IsGapEnough}
 use Rattle.margin_rows.specs.Margin.{MeetsStrictly}
 use Rattle.margin_rows.specs.Price.{cost_of}
 use Rattle.cert_check.specs.declared.found.Found.{Found}
 
 -- the format, the relays and the rows of a case
 abbrev pub study_head : Case → StudyHead
-study_head case = record { format = case.study.format; relays = length case.study.relays; rows = length (rows_in case) }
+study_head case = record {
+  format = case.study.format;
+  relays = length case.study.relays;
+  rows = length (rows_in case);
+}
 
 -- a printed study is that of the case; none is printed only for the formats 1 and 2
 abbrev pub IsOfStudy : Case → Option StudyHead → Type 0
@@ -48,16 +52,14 @@ IsPrintedAnd (Some settings) (Some cost) P = P settings cost
 IsPrintedAnd _ _ P = ⊥
 
 -- the study is that of the case, and printed settings are right and have the printed cost
-pub record AreSettingsRight (case : Case) (head : CertHead) (settings : Option Settings) : Type 0 where
+pub record AreSettingsRight (case : Case) (head : CertHead)
+    (settings : Option Settings) : Type 0 where
   pub study : IsOfStudy case head.study
   pub priced : IfPrinted settings head.cost (IsPriced case)
 
--- the gap is at least the least gap
-abbrev pub IsGapEnough : Case → ℕ → Type 0
-IsGapEnough case gap = (least : ℕ) × IsLeastGap case least × (least ≤ gap)
-
 -- the claim agrees with the case and with what the tree gives
-pub record Agrees (case : Case) (head : CertHead) (settings : Option Settings) (found : Found) : Type 0 where
+pub record Agrees (case : Case) (head : CertHead) (settings : Option Settings)
+    (found : Found) : Type 0 where
   pub right : AreSettingsRight case head settings
   pub boxes : head.boxes ≡ found.boxes
   pub bound : head.bound ≡ found.bound

@@ -13,17 +13,12 @@ ghost use Rattle.cert_check.specs.declared.refusal.CheckRefusal.TheVariants as r
 use crate::claim::Claim;
 use crate::refusal::CheckRefusal;
 use crate::stream::TextCheck;
-use coord_io::{Folder, ReadFail};
+use coord_io::{Folder, PIECE, ReadFail};
 use coord_model::NoMemory;
+use coord_model::limits::MOST_CERT_BYTES;
 use margin_rows::Instance;
 use std::alloc::Global;
 use std::marker::Model;
-
-/// The most bytes that are asked for at once.
-const PIECE: usize = 65_536;
-
-/// The most bytes of a certificate's file.
-const MOST_BYTES: u64 = 536_870_912;
 
 /// Room to check one certificate of a study, however long its file is.
 #[derive(Drop)]
@@ -124,7 +119,7 @@ fn read_text<F: Folder>(
 {
     let mut place = 0;
     loop {
-        let room = MOST_BYTES - place;
+        let room = MOST_CERT_BYTES - place;
         let wanted = room.min(PIECE as u64 - 1) as usize + 1;
         let count = match folder.read_at(name, place, &mut piece[..wanted]) {
             Ok(count) => count,
@@ -135,7 +130,9 @@ fn read_text<F: Folder>(
             return Ok(());
         }
         if count as u64 > room {
-            return Err(CheckRefusal::TooLong { limit: MOST_BYTES });
+            return Err(CheckRefusal::TooLong {
+                limit: MOST_CERT_BYTES,
+            });
         }
         place += count as u64;
         text.take(inst, &piece[..count]);

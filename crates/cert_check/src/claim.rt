@@ -6,7 +6,8 @@ ghost use Rattle.coord_model.specs.Choice.{Settings, choice_data};
 ghost use Rattle.coord_model.specs.Cost.{CostsAtMost};
 ghost use Rattle.margin_rows.specs.Case.{FitsCase};
 ghost use Rattle.cert_check.specs.ClaimFaults.{IsFirstClaimFault, IsFirstOfTree};
-ghost use Rattle.cert_check.specs.Claims.{Agrees, IfPrinted, IsGapEnough, study_head};
+ghost use Rattle.margin_rows.specs.Gap.{IsGapEnough};
+ghost use Rattle.cert_check.specs.Claims.{Agrees, IfPrinted, study_head};
 
 use crate::found::Found;
 use crate::kind::ClaimKind;

@@ -4,11 +4,9 @@ ghost use Rattle.cert_check.specs.OpenLines.{OpenLine};
 ghost use Rattle.cert_check.specs.OpenLines.{IsLeft};
 
 use coord_model::NoMemory;
+use coord_model::limits::MOST_LINE_BYTES;
 use std::alloc::Global;
 use std::marker::Model;
-
-/// The most bytes of a line, its line feed aside.
-const LONGEST_LINE: usize = 2_048;
 
 /// A line whose end has not come. It is bad if it is too long, or has a byte that no line has.
 #[derive(Drop)]
@@ -35,7 +33,7 @@ impl LineRoom {
         ensures { IfOk result (λ room. IsLeft room []) }
     {
         Ok(LineRoom {
-            bytes: vec![in alloc; 0; LONGEST_LINE]?,
+            bytes: vec![in alloc; 0; MOST_LINE_BYTES]?,
             len: 0,
             bad: false,
         })
@@ -46,7 +44,7 @@ impl LineRoom {
         requires { byte ≢ 10 }
         ensures { (left : List ℕ) → IsLeft self.old left → IsLeft self.new (left ++ byte ∷ []) }
     {
-        if self.len == LONGEST_LINE || !(b' '..=b'~').contains(&byte) {
+        if self.len == MOST_LINE_BYTES || !(b' '..=b'~').contains(&byte) {
             self.bad = true;
             return;
         }

@@ -1,13 +1,13 @@
 use Rattle.std.proofs.Common.{◌≡◌, ◌≢◌, ℕ, ◌^◌, ◌≤◌, Option, Some, None, List, [], ◌∷◌, ◌++◌, map, ◌==◌, not, Bool, true, false, sym, ap, subst, ◌∙◌, append_assoc, append-nil}
 use Rattle.std.specs.List.{list_all}
-use Rattle.std.specs.Prelude.{codes, IfSome}
+use Rattle.std.specs.Prelude.{codes}
 use Rattle.std.proofs.lemmas.List.{append_cancel_left}
 use Rattle.coord_model.specs.Tree.{nodes_of}
 use Rattle.coord_model.specs.declared.choice.Ending.{Ending}
 use Rattle.coord_model.specs.declared.cert.StudyHead.{StudyHead}
 use Rattle.coord_text.specs.Claims.{BoundGoesWith, CostGoesWith, IsShort, ending_word}
 use Rattle.coord_text.proofs.SameWords.{same_ending}
-use Rattle.cert_text.specs.CertData.{CertData, IsStudyHead}
+use Rattle.cert_text.specs.CertData.{CertData}
 use Rattle.cert_text.specs.CertText.{cert_lines, opening, settings_line, study_line, ending_line, gap_line, budget_line, boxes_line, bound_line, cost_line}
 use Rattle.cert_text.specs.Nodes.{node_line}
 use Rattle.cert_text.specs.HeadScan.{HeadTo}
@@ -64,16 +64,6 @@ format_stops line first second lines none b = by_study b.cert.head.study (sym (l
     by_study None is = first (cc is)
     by_study (Some s) is = second (cc is)
 
--- the line of the study
-pub study_stops : (line : List ℕ) → ((study : StudyHead) → IsStudyHead study → line ≢ study_line study) → (lines : List (List ℕ)) → lines ≡ codes "coord-certificate 2" ∷ []
-    → ¬ Begins (lines ++ line ∷ [])
-study_stops line none lines before b =
-    by_study b.cert.head.study b.is.head.study (sym (lines_are b.cert) ∙ b.parts ∙ ap (λ l. (l ++ line ∷ []) ++ b.more) before)
-  where
-    by_study : (s : Option StudyHead) → IfSome s IsStudyHead → opening s ++ body_lines b.cert ≡ codes "coord-certificate 2" ∷ line ∷ b.more → ⊥
-    by_study None is same = first_is_not_second (body_lines b.cert) (line ∷ b.more) same
-    by_study (Some s) is same = none s is (cc same)
-
 -- the line of the ending
 pub ending_stops : (head : CertHead) (line : List ℕ) → ((ending : Ending) → line ≢ ending_line ending) → (lines : List (List ℕ)) → lines ≡ opening head.study
     → ¬ Begins (lines ++ line ∷ [])
@@ -86,18 +76,6 @@ pub gap_stops : (head : CertHead) (line : List ℕ) → ((n : ℕ) → 1 ≤ n �
 gap_stops head line none lines to b =
     let body = body_is head (ending_line head.ending ∷ []) lines line to.parts b in
     none b.cert.head.gap b.is.head.gap.0 b.is.head.gap.1 (cc body)
-
-pub budget_stops : (head : CertHead) (line : List ℕ) → ((n : ℕ) → 1 ≤ n → n ≤ 200000 → line ≢ budget_line n) → (lines : List (List ℕ)) → HeadTo kind.Budget lines head
-    → ¬ Begins (lines ++ line ∷ [])
-budget_stops head line none lines to b =
-    let body = body_is head (ending_line head.ending ∷ gap_line head.gap ∷ []) lines line to.parts b in
-    none b.cert.head.budget b.is.head.budget.0 b.is.head.budget.1 (cc body)
-
-pub boxes_stops : (head : CertHead) (line : List ℕ) → ((n : ℕ) → 1 ≤ n → n ≤ 200000 → line ≢ boxes_line n) → (lines : List (List ℕ)) → HeadTo kind.Boxes lines head
-    → ¬ Begins (lines ++ line ∷ [])
-boxes_stops head line none lines to b =
-    let body = body_is head (ending_line head.ending ∷ gap_line head.gap ∷ budget_line head.budget ∷ []) lines line to.parts b in
-    none b.cert.head.boxes b.is.head.boxes.0 b.is.head.boxes.1 (cc body)
 
 -- lines of endings have one ending
 same_ending_line : (e f : Ending) → ending_line e ≡ ending_line f → e ≡ f

@@ -1,4 +1,4 @@
-use Rattle.std.proofs.Common.{◌≡◌, ◌≢◌, ℕ, ◌+◌, ◌≤◌, false, Some, None, List, [], ◌∷◌, ◌++◌, Result, Ok, Err, sym, ap, subst, ◌∙◌, arith, append-nil, length-append}
+use Rattle.std.proofs.Common.{◌≡◌, ◌≢◌, ℕ, ◌+◌, ◌≤◌, false, Some, None, List, [], ◌∷◌, ◌++◌, Result, Ok, Err, sym, ap, subst, ◌∙◌, arith, length-append}
 use Rattle.std.specs.Option.{option_map}
 use Rattle.std.specs.Result.{IsErrAnd}
 use Rattle.std.specs.Prelude.{IfErr}
@@ -107,14 +107,6 @@ reads_on bytes left line rest before after number read of_line stands goes = rec
   parts = read.parts ∙ ap (λ w. text_of read.lines ++ w) stands ∙ sym (text_step read.lines line rest);
   number = omega (arith, read.number, length-append read.lines (line ∷ []));
   taken = goes read.lines read.taken;
-}
-
-pub reads_whole : (bytes left : List ℕ) (reading : Reading) (number : ℕ) → HasRead bytes reading number left → left ≡ [] → reading.scan.due ≡ kind.After → HasReadWhole bytes reading
-reads_whole bytes left reading number read none whole = record {
-  lines = read.lines;
-  parts = read.parts ∙ ap (λ w. text_of read.lines ++ w) none ∙ append-nil (text_of read.lines);
-  taken = read.taken;
-  whole = whole;
 }
 
 -- the certificate of what is read whole

@@ -3,14 +3,9 @@ ghost use Rattle.std.specs.Prelude.{◌≡◌, ℕ, ◌+◌, ◌<◌, ◌≤◌,
 ghost use Rattle.coord_model.specs.declared.tree.NodeLine.TheVariants.{Split};
 ghost use Rattle.cert_text.specs.DueNodes.{Takes, stack, due_after, MayStand};
 
+use coord_model::limits::{MOST_NODES, MOST_SPLITS};
 use coord_model::{NoMemory, NodeLine};
 use std::alloc::Global;
-
-/// The most splits on a path.
-const MOST_SPLITS: u16 = 3072;
-
-/// The most nodes of a tree.
-const MOST_NODES: u32 = 400_001;
 
 /// The due nodes, each by the number of splits above it, and how many nodes were read.
 #[derive(Drop)]

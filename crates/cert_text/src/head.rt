@@ -13,6 +13,7 @@ ghost use Rattle.cert_text.specs.declared.kinds.CertKind.TheVariants as kind;
 
 use crate::kinds::{CertHead, CertKind};
 use crate::numbers::{cut_number, last_count, last_number};
+use coord_model::limits::{GREATEST_BUDGET, GREATEST_GAP, MOST_RELAYS, MOST_ROWS};
 use coord_model::{Ending, StudyHead};
 use coord_text::{bound_goes_with, cost_goes_with, read_amount, read_ending};
 
@@ -93,8 +94,8 @@ fn read_study(line: &[u8]) -> Option<StudyHead>
     ensures no_such { IsNone result → (study : StudyHead) → IsStudyHead study → line.now ≢ study_line study }
 {
     let (format, rest) = cut_number(line, b"study ", 4)?;
-    let (relays, rest) = cut_number(rest, b" ", 96)?;
-    let rows = last_number(rest, b" ", 4096)?;
+    let (relays, rest) = cut_number(rest, b" ", MOST_RELAYS as u64)?;
+    let rows = last_number(rest, b" ", MOST_ROWS as u64)?;
     if format == 0 {
         return None;
     }
@@ -143,7 +144,7 @@ fn next_gap(head: CertHead, line: &[u8]) -> Option<Front>
     ensures goes { IfSome result (λ next. (lines : List (List ℕ)) → HeadTo kind.Gap lines head → HeadTo next.due (lines ++ line.now ∷ []) next.head) }
     ensures stops { IsNone result → (lines : List (List ℕ)) → HeadTo kind.Gap lines head → ¬ Begins (lines ++ line.now ∷ []) }
 {
-    let gap = last_count(line, b"gap ", 1_000_000_000_000)?;
+    let gap = last_count(line, b"gap ", GREATEST_GAP)?;
     let mut head = head;
     head.gap = gap;
     Some(Front {
@@ -158,7 +159,7 @@ fn next_budget(head: CertHead, line: &[u8]) -> Option<Front>
     ensures goes { IfSome result (λ next. (lines : List (List ℕ)) → HeadTo kind.Budget lines head → HeadTo next.due (lines ++ line.now ∷ []) next.head) }
     ensures stops { IsNone result → (lines : List (List ℕ)) → HeadTo kind.Budget lines head → ¬ Begins (lines ++ line.now ∷ []) }
 {
-    let budget = last_count(line, b"budget ", 200_000)?;
+    let budget = last_count(line, b"budget ", GREATEST_BUDGET as u64)?;
     let mut head = head;
     head.budget = budget as u32;
     Some(Front {
@@ -173,7 +174,7 @@ fn next_boxes(head: CertHead, line: &[u8]) -> Option<Front>
     ensures goes { IfSome result (λ next. (lines : List (List ℕ)) → HeadTo kind.Boxes lines head → HeadTo next.due (lines ++ line.now ∷ []) next.head) }
     ensures stops { IsNone result → (lines : List (List ℕ)) → HeadTo kind.Boxes lines head → ¬ Begins (lines ++ line.now ∷ []) }
 {
-    let boxes = last_count(line, b"boxes ", 200_000)?;
+    let boxes = last_count(line, b"boxes ", GREATEST_BUDGET as u64)?;
     let mut head = head;
     head.boxes = boxes as u32;
     Some(Front {

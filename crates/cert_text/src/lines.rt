@@ -14,6 +14,7 @@ use crate::kinds::{CertHead, CertItem, CertKind};
 use crate::nodes::read_node;
 use crate::scan::CertScan;
 use crate::settings::read_steps;
+use coord_model::limits::MOST_RELAYS;
 use coord_model::{Choice, Ending, NoMemory, Weight};
 use std::alloc::Global;
 
@@ -36,10 +37,10 @@ impl CertScan {
                 cost: None,
             },
             choice: Choice {
-                pickup: vec![in alloc; 0; 96]?,
-                dial: vec![in alloc; 0; 96]?,
+                pickup: vec![in alloc; 0; MOST_RELAYS as usize]?,
+                dial: vec![in alloc; 0; MOST_RELAYS as usize]?,
             },
-            pairs: vec![in alloc; Weight { row: 0, weight: 0 }; 96]?,
+            pairs: vec![in alloc; Weight { row: 0, weight: 0 }; MOST_RELAYS as usize]?,
             count: 0,
             dues: Dues::new(alloc)?,
         })

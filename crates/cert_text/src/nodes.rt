@@ -10,6 +10,7 @@ ghost use Rattle.cert_text.specs.Numbers.{StopsDigits};
 ghost use Rattle.cert_text.specs.Pairs.{AreWithin};
 
 use crate::numbers::{cut_number, last_number};
+use coord_model::limits::{MOST_ROWS, MOST_WEIGHTS};
 use coord_model::{NodeLine, Weight};
 
 /// A word of two numbers after a space, and what follows it. The numbers are put where a weight has its row and its
@@ -66,7 +67,7 @@ pub fn read_weights(text: &[u8], weights: &mut [Weight]) -> Option<usize>
     ensures no_such { IsNone result → (ws : List Weight) → AreWeights ws → text.now ≢ weight_words ws }
     ensures length { length weights.new ≡ length weights.old }
 {
-    let n = read_pairs(text, 4095, u32::MAX, 64, weights)?;
+    let n = read_pairs(text, MOST_ROWS as u16 - 1, u32::MAX, MOST_WEIGHTS, weights)?;
     let read = &weights[..n];
     if !are_rising(read) {
         return None;

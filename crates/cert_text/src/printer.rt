@@ -17,6 +17,7 @@ use crate::text::{
     push_count, push_format, push_labelled_amount, push_line, push_settings, push_study_words,
     push_word,
 };
+use coord_model::limits::MOST_SPLITS;
 use coord_model::{Cert, NoMemory, Node, StudyHead};
 use coord_text::ending_word;
 use std::alloc::Global;
@@ -26,7 +27,7 @@ use std::marker::Model;
 const LONGEST_LINE: usize = 1037;
 
 /// The most nodes that wait on a path.
-const LONGEST_PATH: usize = 3073;
+const LONGEST_PATH: usize = MOST_SPLITS as usize + 1;
 
 /// A printer of a certificate's text. It keeps room for one line, and for the nodes that wait on a path.
 #[derive(Drop)]

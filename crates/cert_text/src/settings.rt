@@ -7,6 +7,7 @@ ghost use Rattle.cert_text.specs.CertText.{step_words};
 ghost use Rattle.cert_text.specs.Pairs.{AreWithin};
 
 use crate::nodes::read_pairs;
+use coord_model::limits::{MOST_DIALS, MOST_PLUGS, MOST_RELAYS};
 use coord_model::{Choice, Weight};
 
 /// The settings of the line, which are put into the choice. `None`: the line has none.
@@ -21,7 +22,13 @@ pub fn read_steps(line: &[u8], pairs: &mut [Weight], choice: &mut Choice) -> Opt
     ensures unchanged { IsNone result → choice.new ≡ choice.old }
 {
     let words = line.strip_prefix(b"settings")?;
-    let n = read_pairs(words, 63, 3999, 96, pairs)?;
+    let n = read_pairs(
+        words,
+        MOST_PLUGS as u16 - 1,
+        MOST_DIALS - 1,
+        MOST_RELAYS as usize,
+        pairs,
+    )?;
     if n == 0 {
         return None;
     }

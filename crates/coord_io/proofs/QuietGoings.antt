@@ -15,12 +15,6 @@ within_same room bytes same is =
       | false ↦ λ some. let no : ⊥ = cc in absurd no
     ] is
 
--- if a sink tells afterwards what it was given within its room, it gained exactly that
-pub given_gained : (told later : Option (List ℕ)) (room : ℕ) (piece : List ℕ) → later ≡ option_and_then (λ had. within room (had ++ piece)) told → Goes told later (λ m n. n ≡ m ++ piece)
-given_gained told later room piece is = record {
-  came = λ n now. option_and_then_some (λ had. within room (had ++ piece)) told n (sym is ∙ now) (λ had was more. (had, was, within_same room (had ++ piece) n more));
-}
-
 -- if a folder tells afterwards what it was with a file emptied, that file is empty
 pub emptied_becomes : (told later : Option Files) (name : List ℕ) → later ≡ option_and_then (emptied name) told → Goes told later (Becomes name [])
 emptied_becomes told later name is = record {

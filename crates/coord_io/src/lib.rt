@@ -33,7 +33,7 @@ pub use mem_sink::MemSink;
 pub use quiet_file::{QuietFile, are_quiet};
 pub use quiet_folder::QuietFolder;
 pub use quiet_sink::QuietSink;
-pub use read::read_whole;
+pub use read::{PIECE, read_whole};
 pub use refusals::{Failed, ReadFail, ReadRefusal};
 pub use sink::Sink;
 pub use std_sink::StdSink;

@@ -8,8 +8,8 @@ ghost use Rattle.coord_io.specs.Outside.{Changes, IsMissing, Told};
 use crate::{Folder, ReadRefusal};
 use std::alloc::Global;
 
-/// The most bytes that are asked for at once.
-const PIECE: usize = 65_536;
+/// The most bytes that are asked for, or handed over, at once.
+pub const PIECE: usize = 65_536;
 
 /// Reads the file of that name to its end, if it has at most `limit` bytes.
 ///

@@ -4,10 +4,11 @@ use Rattle.std.specs.Prelude.{◌≡◌, ℕ, ◌&&◌, ◌==◌, ◌+◌, ◌*�
 use Rattle.std.specs.List.{find}
 use Rattle.std.specs.Option.{option_map_or}
 use Rattle.coord_model.specs.Choice.{Settings}
+use Rattle.coord_model.specs.Dial.{dial_of}
 use Rattle.coord_model.specs.Form.{form_of}
 use Rattle.coord_model.specs.Rows.{amps_at, interval_rows, least_ms_of, most_ms_of, rows_of, terms_of}
 use Rattle.coord_model.specs.StudyData.{StudyData}
-use Rattle.coord_model.specs.Time.{plug_at, dial_at, sensed_multiple, capped, IsUnder, IsOver}
+use Rattle.coord_model.specs.Time.{plug_at, sensed_multiple, capped, IsUnder, IsOver}
 use Rattle.coord_model.specs.declared.study.Current.{Current}
 use Rattle.coord_model.specs.declared.study.Relay.{Relay}
 use Rattle.coord_model.specs.declared.study.Row.{Row}
@@ -57,10 +58,6 @@ abbrev pub IsUnderTime : StudyData → List Current → Settings → ℕ → ℕ
 IsUnderTime study currents settings f i n q =
     IfSome (slice_get study.relays i) (λ relay. IsUnder (form_of relay.curve)
     (capped study.cap (sensed_multiple relay (slice_index settings.pickup i) (amps_at currents f i))) n q)
-
--- the dial of relay i, in thousandths
-abbrev pub dial_of : StudyData → Settings → ℕ → ℕ
-dial_of study settings i = option_map_or (λ relay. dial_at relay (slice_index settings.dial i)) (slice_get study.relays i) 0
 
 -- the coordination interval of backup b and primary p, in milliseconds: the pair's own, or else the study's
 abbrev pub cti_of : StudyData → ℕ → ℕ → ℕ

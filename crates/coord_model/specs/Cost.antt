@@ -2,8 +2,9 @@
 -- in weighted microseconds.
 use Rattle.std.specs.Prelude.{ℕ, ◌*◌, ◌<◌, ◌≤◌, List, slice_get, sum_by, All}
 use Rattle.std.specs.Option.{option_map_or}
-use Rattle.coord_model.specs.Allowed.{IsOverTime, IsUnderTime, dial_of}
+use Rattle.coord_model.specs.Allowed.{IsAllowed, IsOverTime, IsUnderTime}
 use Rattle.coord_model.specs.Choice.{Settings}
+use Rattle.coord_model.specs.Dial.{dial_of}
 use Rattle.coord_model.specs.Rows.{terms_of}
 use Rattle.coord_model.specs.StudyData.{StudyData}
 use Rattle.coord_model.specs.declared.study.Current.{Current}
@@ -24,6 +25,11 @@ CostsAtLeast study currents settings bound =
     (q : ℕ) (n : Term → ℕ) → 0 < q
     → All (λ term. IsOverTime study currents settings term.fault term.relay (n term) q) (terms_of study currents)
     → bound * q ≤ 1000 * weighted_sum study currents settings n
+
+-- all allowed settings cost at least `bound`
+abbrev pub IsBelowAll : StudyData → List Current → ℕ → Type 0
+IsBelowAll study currents bound =
+    (settings : Settings) → IsAllowed study currents settings → CostsAtLeast study currents settings bound
 
 -- the settings cost at most `cost`: no estimates from below add up to more
 abbrev pub CostsAtMost : StudyData → List Current → Settings → ℕ → Type 0

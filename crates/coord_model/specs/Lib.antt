@@ -3,6 +3,7 @@ pub mod Choice
 pub mod Cost
 pub mod CustomForm
 pub mod CustomRoot
+pub mod Dial
 pub mod Enclosure
 pub mod Form
 pub mod Limits

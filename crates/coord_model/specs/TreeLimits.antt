@@ -1,5 +1,5 @@
 -- The limits of a tree and of the weights of its leaves (ours).
-use Rattle.std.specs.Prelude.{ℕ, ◌-◌, ◌^◌, ◌≤◌, ⊤, List, length, All, map}
+use Rattle.std.specs.Prelude.{◌-◌, ◌^◌, ◌≤◌, ⊤, List, length, All, map}
 use Rattle.std.specs.List.Sorted.{IsStrictlyIncreasing}
 use Rattle.coord_model.specs.Tree.{Tree, split, empty, void, bound, hair, open_leaf, depth, nodes_of}
 use Rattle.coord_model.specs.declared.weights.Weight.{Weight}

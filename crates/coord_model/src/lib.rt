@@ -9,6 +9,7 @@ mod choice;
 mod curve;
 mod ends;
 mod kinds;
+pub mod limits;
 mod memory;
 mod name;
 mod order;

@@ -8,12 +8,10 @@ ghost use Rattle.std.specs.Hash as fed;
 ghost use Rattle.std.proofs.Common.{rules};
 ghost use Rattle.coord_model.specs.Name.{is_name, is_name_byte, IsName};
 
+use crate::limits::LONGEST_NAME;
 use std::fmt;
 use std::hash::{Hash, Hasher};
 use std::marker::Model;
-
-/// The most bytes that a name has.
-pub const LONGEST_NAME: usize = 16;
 
 /// A name of 1 to 16 bytes, each an ASCII letter, a digit, `_`, `-` or `.`. It keeps its bytes in place.
 #[derive(Clone, Copy)]

@@ -32,8 +32,8 @@ use Rattle.coord_run.proofs.GapLaws.{one_least}
 use Rattle.fault_table.specs.Table.{currents_of}
 use Rattle.margin_rows.proofs.Boxed.{pickup_first}
 use Rattle.margin_rows.specs.Case.{Case, rows_in}
+use Rattle.margin_rows.specs.Gap.{IsGapEnough}
 use Rattle.network_file.specs.Network.{network_of}
-use Rattle.step_rules.specs.Issuing.{IsGapOf}
 use Rattle.coord_run.proofs.RightCerts.{right_not_refused}
 use Rattle.coord_run.proofs.SearchedLaws.{ending_is, searched, searched_not}
 
@@ -123,9 +123,9 @@ module _ (files : Files) (before after : FolderState) (sink_before sink_after : 
         let read = here (λ m. AreInputs m names.network names.currents reads.0.study reads.0.currents) reads.1 in
         subst P (one_case names.network names.currents reads.0 case read made.inputs) reads.2.1
 
-    no_gap_cause : (asked : SolveWords) (refusal : Refusal) → IfSome asked.gap (IsGapOf case) → IsGapTooSmall case asked refusal → ⊥
+    no_gap_cause : (asked : SolveWords) (refusal : Refusal) → IfSome asked.gap (IsGapEnough case) → IsGapTooSmall case asked refusal → ⊥
     no_gap_cause asked refusal enough small =
-        let given : IsGapOf case small.gap = subst (λ o. IfSome o (IsGapOf case)) small.is_gap enough in
+        let given : IsGapEnough case small.gap = subst (λ o. IfSome o (IsGapEnough case)) small.is_gap enough in
         let same = one_least case given.least small.least given.exact small.is_least in
         omega (arith, same, given.at_least, small.below)
 
@@ -161,9 +161,6 @@ module _ (files : Files) (before after : FolderState) (sink_before sink_after : 
       go (done output) caused (inl printed) = subst P (sym printed.0) (of_output output caused.0)
       go (done output) caused (inr failed) = absurd (well.prints failed.1)
 
-  reported : (output : OutputData) → output.status ≡ 0 → IsReported output.status
-  reported output is = inl is
-
 -- ---- each command
 
 -- what is printed when printing does not fail
@@ -183,7 +180,7 @@ drill_printed n before after status well (inl drilled) =
     inl (subst IsEnding (sym (same ∙ drilled.2.truth.status_is)) (ending_is o.ending (is_some o.issued)))
 
 module _ (files : Files) (before after : FolderState) (sink_before sink_after : SinkState) (well : NothingFails files before after sink_before sink_after) where
-  not_solved : (asked : SolveWords) (case : Case) → MakeCase files asked.names case → IfSome asked.gap (IsGapOf case) → (refusal : Refusal)
+  not_solved : (asked : SolveWords) (case : Case) → MakeCase files asked.names case → IfSome asked.gap (IsGapEnough case) → (refusal : Refusal)
       → SolveCause asked before after refusal → ⊥
   not_solved asked case made enough refusal (inl of_case) = no_case_cause files before after sink_before sink_after well asked.names case made refusal of_case
   not_solved asked case made enough refusal (inr small) =

@@ -30,6 +30,7 @@ use Rattle.margin_rows.proofs.Timed.{at_place}
 use Rattle.margin_rows.proofs.Written.{in_list}
 use Rattle.margin_rows.specs.Case.{Case, FitsCase}
 use Rattle.margin_rows.specs.FirstBox.{IsInFirstBox}
+use Rattle.margin_rows.specs.Gap.{IsGapEnough}
 use Rattle.margin_rows.specs.Least.{IsStrictLeast}
 use Rattle.margin_rows.specs.Price.{cost_of}
 
@@ -151,7 +152,7 @@ module _ (case : Case) (asked : SolveWords) (outcome : Outcome) (allowed : IsAsk
       right = record { study = study_is case; priced = settings_priced };
       boxes = is.boxes ∙ ap boxes (sym is.tree);
       bound = refl;
-      gap = (comes.enough.least, comes.enough.exact, subst (λ (gap : ℕ). comes.enough.least ≤ gap) (sym is.same_gap) comes.enough.at_least);
+      gap = subst (IsGapEnough case) (sym is.same_gap) comes.enough;
       ending = sym (ap (λ t. ending_of t outcome.bound outcome.cost outcome.gap outcome.budget) is.tree
           ∙ ap (λ gap. ending_of comes.reached.state.tree outcome.bound outcome.cost gap outcome.budget) is.same_gap
           ∙ ap (λ budget. ending_of comes.reached.state.tree outcome.bound outcome.cost comes.gap budget) is.same_budget ∙ is.ending);

@@ -1,16 +1,14 @@
 -- How a command ends whose work is handed over.
-use Rattle.std.proofs.Common.{◌≡◌, ◌≤◌, arith, inl, inr, ℕ, [], ◌∷◌, List, le_refl, refl, Result, Ok, Err, OnErr, Some, None, IfOk, IfErr, subst, sym}
+use Rattle.std.proofs.Common.{◌≡◌, ◌≤◌, arith, inl, inr, ℕ, [], ◌∷◌, List, le_refl, refl, Result, Ok, Err, OnErr, None, IfOk, IfErr, subst, sym}
 use Rattle.coord_io.proofs.Goings.{goes_as, goes_on, goes_stays}
 use Rattle.coord_io.specs.Faults.{Rose}
 use Rattle.coord_io.specs.Files.{Becomes, Files, StaysOrPart}
 use Rattle.coord_io.specs.Outside.{Changes, FolderState, IsReadAlone, SinkState}
 use Rattle.coord_run.specs.End.{AreCutAt, AreWritten, Ends, FileText, OutputData, Puts, done, no_memory, refused, unwritten}
-use Rattle.coord_run.specs.Handing.{Delivers, HandsOver, both_texts, files_of, output_data}
+use Rattle.coord_run.specs.Handing.{Delivers, HandsOver, files_of, output_data}
 use Rattle.coord_run.specs.Printing.{Prints}
-use Rattle.coord_run.specs.RefusalText.{write_fault_text}
 use Rattle.coord_run.specs.Stops.{StopsFor}
 use Rattle.coord_run.specs.SolveWords.{FileNames}
-use Rattle.coord_run.specs.declared.end.NewFiles.{NewFiles}
 use Rattle.coord_run.specs.declared.end.Output.{Output}
 use Rattle.coord_run.specs.declared.refusal.Refusal.{Refusal}
 use Rattle.coord_run.specs.declared.refusal.Stop.{Stop}
@@ -64,20 +62,6 @@ module _ (output : Output) (before after : FolderState) (sink_before sink_after 
   pub delivers_report : output.files ≡ None → after ≡ before → Prints output.report.items output.status sink_before sink_after status → Delivers output before after sink_before sink_after status
   delivers_report is same printed =
       inl (subst (λ f. AreWritten (files_of f) before after) (sym is) (subst (λ folder. AreWritten [] before folder) (sym same) (written_none before)), printed)
-
-  pub delivers_files : (files : NewFiles) → output.files ≡ Some files → AreWritten (both_texts files) before after → Prints output.report.items output.status sink_before sink_after status
-      → Delivers output before after sink_before sink_after status
-  delivers_files files is put printed = inl (subst (λ f. AreWritten (files_of f) before after) (sym is) put, printed)
-
-  -- writing one of them failed
-  pub delivers_fault : (files : NewFiles) (file : FileText) (line : List ℕ) → output.files ≡ Some files → AreCutAt (both_texts files) file before after → line ≡ write_fault_text file.name
-      → Prints line 11 sink_before sink_after status → Delivers output before after sink_before sink_after status
-  delivers_fault files file line is cut line_is printed =
-      inr (inl (file, subst (λ f. AreCutAt (files_of f) file before after) (sym is) cut, subst (λ text. Prints text 11 sink_before sink_after status) line_is printed))
-
-  -- memory ran out
-  pub delivers_none : after ≡ before → status ≡ 30 → sink_after ≡ sink_before → Delivers output before after sink_before sink_after status
-  delivers_none same thirty printed = inr (inr (same, thirty, printed))
 
 -- files that are written after a reading alone are written over both
 written_after : (files : List FileText) (before between after : FolderState) → IsReadAlone before between → AreWritten files between after → AreWritten files before after

@@ -5,12 +5,12 @@ use Rattle.coord_run.specs.OptionNumbers.{IsGap}
 use Rattle.coord_run.specs.Solve.{IsGapFor}
 use Rattle.margin_rows.proofs.SmallGaps.{width_sum_few}
 use Rattle.margin_rows.proofs.Widths.{sum_is_one}
-use Rattle.margin_rows.specs.Case.{Case, FitsCase}
+use Rattle.margin_rows.specs.Case.{Case, FitsCase, terms_in}
 use Rattle.margin_rows.specs.Gap.{IsLeastGap}
 
 -- a case has one least gap
 pub one_least : (case : Case) (a b : ℕ) → IsLeastGap case a → IsLeastGap case b → a ≡ b
-one_least case a b x y = x.2 ∙ ap (λ (sum : ℕ). div_ceil sum 1000000 + 1) (sum_is_one case x.0 y.0 x.1 y.1) ∙ sym y.2
+one_least case a b x y = x.2 ∙ ap (λ (sum : ℕ). div_ceil sum 1000000 + 1) (sum_is_one case (terms_in case) x.0 y.0 x.1 y.1) ∙ sym y.2
 
 -- only a gap that is given is below the least gap
 pub given_below : (case : Case) (given : Option ℕ) (gap least : ℕ) → IsGapFor case given gap → IsLeastGap case least → gap < least → given ≡ Some gap

@@ -12,11 +12,11 @@ use Rattle.cert_tree.proofs.Proving.{holds_proves}
 use Rattle.cert_tree.specs.Proving.{IsProved}
 use Rattle.coord_model.specs.Allowed.{AreOnSteps, IsAllowed}
 use Rattle.coord_model.specs.Choice.{Settings, choice_data}
-use Rattle.coord_model.specs.Cost.{CostsAtMost}
+use Rattle.coord_model.specs.Cost.{CostsAtMost, IsBelowAll}
 use Rattle.coord_model.specs.declared.choice.Choice.{Choice}
 use Rattle.coord_model.specs.declared.choice.Ending.{Ending}
 use Rattle.coord_model.specs.declared.choice.Ending.TheVariants.{Closed, NoSettings, BudgetSpent, Hairline}
-use Rattle.coord_run.specs.Asserted.{IsBelowAll, IsClose, IsHairline, IsSpent}
+use Rattle.coord_run.specs.Asserted.{IsClose, IsHairline, IsSpent}
 use Rattle.coord_run.specs.Shown.{IsShown}
 use Rattle.coord_run.specs.Solve.{ComesTo}
 use Rattle.coord_run.specs.SolveWords.{SolveWords}
@@ -82,10 +82,10 @@ module _ (case : Case) (asked : SolveWords) (outcome : Outcome) (comes : ComesTo
   in_first : (other : Settings) → IsAllowed case.study case.currents other → IsInFirstBox case other
   in_first = allowed_in_first_box case
 
-  pub below_all : IfSome outcome.bound (IsBelowAll case)
+  pub below_all : IfSome outcome.bound (IsBelowAll case.study case.currents)
   below_all = go outcome.bound proved
     where
-      go : (b : Option ℕ) → IsProved case is.first b → IfSome b (IsBelowAll case)
+      go : (b : Option ℕ) → IsProved case is.first b → IfSome b (IsBelowAll case.study case.currents)
       go None proves = tt
       go (Some low) proves = λ other allows. proves other (first_box_holds case is.first other is.is_first (in_first other allows)) allows
 

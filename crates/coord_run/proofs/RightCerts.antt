@@ -48,8 +48,8 @@ agrees_not case head settings found (claim.Study p f) agrees wrong = wrong.2 (su
 agrees_not case head settings found (claim.Boxes p f) agrees wrong = wrong.1.apart agrees.boxes
 agrees_not case head settings found (claim.Bound p f) agrees wrong = wrong.1.1.apart agrees.bound
 agrees_not case head settings found (claim.Gap p least) agrees wrong =
-    let same = one_least case agrees.gap.0 least agrees.gap.1 wrong.1.3 in
-    omega (arith, same, agrees.gap.2, wrong.1.2, wrong.1.4)
+    let same = one_least case agrees.gap.least least agrees.gap.exact wrong.1.3 in
+    omega (arith, same, agrees.gap.at_least, wrong.1.2, wrong.1.4)
 agrees_not case head settings found (claim.EndingIs p f) agrees wrong = wrong.1.5 (ap Some wrong.1.3 ∙ agrees.ending ∙ sym wrong.1.4)
 agrees_not case head settings found (claim.Relays p f) agrees wrong =
     printed_both (IsPriced case) (IsFirstOfSettings case (claim.Relays p f)) settings head.cost (priced_right case (claim.Relays p f)) agrees.right.priced wrong.1

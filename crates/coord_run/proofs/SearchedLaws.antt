@@ -6,8 +6,8 @@ use Rattle.branch_bound.specs.HairLeaf.{IsHairPlace}
 use Rattle.branch_bound.specs.Outcome.{IsOutcome}
 use Rattle.branch_bound.specs.declared.outcome.HairPlace.{HairPlace}
 use Rattle.branch_bound.specs.declared.outcome.Outcome.{Outcome}
-use Rattle.coord_model.specs.Allowed.{dial_of}
 use Rattle.coord_model.specs.Choice.{Settings, choice_data}
+use Rattle.coord_model.specs.Dial.{dial_of}
 use Rattle.coord_model.specs.declared.choice.Ending.{Ending}
 use Rattle.coord_model.specs.declared.choice.Ending.TheVariants.{BudgetSpent, Closed, Hairline, NoSettings}
 use Rattle.coord_model.specs.declared.study.Row.{Row}

@@ -27,10 +27,6 @@ pub first_none : (faults more : Kinds) → or_else faults more ≡ [] → faults
 first_none [] more none = refl
 first_none (kind ∷ faults) more none = none
 
-last_none : (faults more : Kinds) → or_else faults more ≡ [] → more ≡ []
-last_none [] more none = none
-last_none (kind ∷ faults) more none = absurd (kind_none kind faults none)
-
 -- faults that are one kind are some
 pub some_kind : (faults : Kinds) (kind : ErrorKind) → faults ≡ kind ∷ [] → faults ≡ [] → ⊥
 some_kind faults kind is none = kind_none kind [] (sym is ∙ none)

@@ -14,8 +14,8 @@ use Rattle.coord_run.specs.Words.{Command, check, drill, margins, pairs, solve}
 use Rattle.margin_rows.specs.Box.{Box, IsFirstBox}
 use Rattle.margin_rows.specs.Case.{Case, rows_in}
 use Rattle.margin_rows.specs.FirstBox.{IsFirstStep}
+use Rattle.margin_rows.specs.Gap.{IsGapEnough}
 use Rattle.margin_rows.specs.Times.{time_at}
-use Rattle.step_rules.specs.Issuing.{IsGapOf}
 
 -- the two ends of the enclosure of the relay's time at the fault are equal, at each pickup step of
 -- the first box
@@ -45,7 +45,7 @@ IsReported status = (status ≡ 0) ⊎ (status ≡ 30)
 abbrev pub MustSolve : SolveWords → FolderState → FolderState → SinkState → SinkState → ℕ → Type 0
 MustSolve asked before after sink_before sink_after status =
     (files : Files) → NothingFails files before after sink_before sink_after
-    → (case : Case) → MakeCase files asked.names case → IfSome asked.gap (IsGapOf case)
+    → (case : Case) → MakeCase files asked.names case → IfSome asked.gap (IsGapEnough case)
     → IsSearched case asked.budget status
 
 -- what must come of any words

@@ -2,16 +2,10 @@
 use Rattle.std.specs.Prelude.{◌≡◌, ℕ, pos, ◌+◌, ◌+ℤ◌, ◌<◌, ◌≤◌, ◌≤ℤ◌, true, Some, length, All}
 use Rattle.branch_bound.specs.declared.outcome.Outcome.{Outcome}
 use Rattle.cert_tree.specs.Endings.{boxes, has_open_leaf}
-use Rattle.coord_model.specs.Allowed.{IsAllowed}
 use Rattle.coord_model.specs.Choice.{Settings}
-use Rattle.coord_model.specs.Cost.{CostsAtLeast}
 use Rattle.coord_model.specs.Tree.{shape}
 use Rattle.margin_rows.specs.Case.{Case, row_at, rows_in}
 use Rattle.margin_rows.specs.Margin.{MeetsLoosely, MeetsStrictly, loose_margin, row_width, strict_margin}
-
--- every allowed choice costs at least the bound
-abbrev pub IsBelowAll : Case → ℕ → Type 0
-IsBelowAll case bound = (other : Settings) → IsAllowed case.study case.currents other → CostsAtLeast case.study case.currents other bound
 
 -- the settings that are issued cost at most the gap more than the bound
 pub record IsClose (gap : ℕ) (outcome : Outcome) : Type 0 where

@@ -10,8 +10,8 @@ use Rattle.coord_io.specs.Outside.{Changes, FolderState, SinkState, Takes, Told}
 use Rattle.coord_io.specs.Written.{Gained}
 use Rattle.coord_model.specs.Allowed.{IsAllowed}
 use Rattle.coord_model.specs.Choice.{Settings, choice_data}
-use Rattle.coord_model.specs.Cost.{CostsAtMost}
-use Rattle.coord_run.specs.Asserted.{IsBelowAll, IsClose, IsHairline, IsSpent}
+use Rattle.coord_model.specs.Cost.{CostsAtMost, IsBelowAll}
+use Rattle.coord_run.specs.Asserted.{IsClose, IsHairline, IsSpent}
 use Rattle.coord_run.specs.Certified.{cert_of}
 use Rattle.coord_run.specs.Inputs.{AreInputs}
 use Rattle.coord_run.specs.Report.{report_text, sheet_of}
@@ -29,7 +29,7 @@ IsEnding status = (status ≡ 0) ⊎ ((status ≡ 3) ⊎ ((status ≡ 4) ⊎ ((s
 pub record Asserts (case : Case) (gap budget : ℕ) (outcome : Outcome) (status : ℕ) : Type 0 where
   pub settings_allowed : IfSome outcome.issued (λ choice. IsAllowed case.study case.currents (choice_data choice))
   pub cost_at_most : IfSome outcome.issued (λ choice. IsSomeAnd outcome.cost (CostsAtMost case.study case.currents (choice_data choice)))
-  pub bound_below_all : IfSome outcome.bound (IsBelowAll case)
+  pub bound_below_all : IfSome outcome.bound (IsBelowAll case.study case.currents)
   pub close_at_closed : status ≡ 0 → IsClose gap outcome
   pub no_settings_true : status ≡ 3 → (other : Settings) → ¬ (IsAllowed case.study case.currents other)
   pub spent_at_budget : (status ≡ 4) ⊎ (status ≡ 5) → IsSpent budget outcome

@@ -16,9 +16,8 @@ use Rattle.coord_run.specs.Status.{outcome_status}
 use Rattle.coord_run.specs.declared.refusal.Refusal.{Refusal}
 use Rattle.coord_run.specs.declared.refusal.Refusal.TheVariants.{GapTooSmall}
 use Rattle.margin_rows.specs.Case.{Case, FitsCase}
-use Rattle.margin_rows.specs.Gap.{IsLeastGap}
+use Rattle.margin_rows.specs.Gap.{IsGapEnough, IsLeastGap}
 use Rattle.settings_sheet.specs.SheetText.{sheet_text}
-use Rattle.step_rules.specs.Issuing.{IsGapOf}
 
 -- the gap that is searched with: the given one; or else the greater of 1,000 and the study's least gap
 abbrev pub IsGapFor : Case → Option ℕ → ℕ → Type 0
@@ -45,7 +44,7 @@ pub record ComesTo (case : Case) (asked : SolveWords) (outcome : Outcome) : Type
   pub fits : FitsCase case
   pub gap : ℕ
   pub is_gap : IsGapFor case asked.gap gap
-  pub enough : IsGapOf case gap
+  pub enough : IsGapEnough case gap
   pub reached : IsReached case gap asked.budget outcome
 
 -- what is handed over for an outcome: its certificate, its sheet, and its report with its status

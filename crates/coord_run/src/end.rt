@@ -4,14 +4,14 @@ ghost use Rattle.coord_run.specs.End.{AreWritten};
 ghost use Rattle.coord_run.specs.Handing.{AreWritable, Delivers, HandsOver, IsUnwritten, IsWritable, both_texts};
 ghost use Rattle.coord_run.specs.Names.{names_data};
 
-use crate::pieces::{PIECE, put_lines};
+use crate::pieces::put_lines;
 use crate::printing::{print, refuse};
 use crate::refusal::Stop;
 use crate::refusal_line::refusal_line;
 use crate::status::{NO_MEMORY, WRITE_FAULT, refusal_status};
 use crate::words::Names;
 use cert_text::CertPrinter;
-use coord_io::{Failed, Folder, Sink, put_whole};
+use coord_io::{Failed, Folder, PIECE, Sink, put_whole};
 use coord_model::Cert;
 use std::alloc::Global;
 

@@ -12,24 +12,20 @@ ghost use Rattle.margin_rows.specs.Case.{FitsCase};
 
 use crate::refusal::{File, Refusal, Stop};
 use coord_io::{Folder, ReadRefusal, read_whole};
+use coord_model::limits::{MOST_CERT_BYTES, MOST_FILE_BYTES, MOST_ROWS};
 use coord_model::{Currents, Study, What};
 use fault_table::{TableFault, read_currents};
 use margin_rows::{BuildFault, Instance, build};
 use network_file::{NetFault, read_network};
 use std::alloc::Global;
 
-/// The most bytes of a certificate, and of any other file that is read.
-const MOST_BYTES_OF_CERT: u64 = 536_870_912;
-
-const MOST_BYTES: u64 = 4_194_304;
-
 /// The most bytes of a file.
 pub fn most_bytes(file: File) -> u64
     ensures { result ≡ most_bytes_of file }
 {
     match file {
-        File::Network | File::Currents | File::Sheet => MOST_BYTES,
-        File::Cert => MOST_BYTES_OF_CERT,
+        File::Network | File::Currents | File::Sheet => MOST_FILE_BYTES,
+        File::Cert => MOST_CERT_BYTES,
     }
 }
 
@@ -52,7 +48,7 @@ pub fn read_case<F: Folder>(
         Err(BuildFault::TooManyRows { .. }) => {
             Err(Stop::Refused(Refusal::TooMany {
                 what: What::Rows,
-                limit: 4_096,
+                limit: MOST_ROWS,
             }))
         },
         Err(BuildFault::NoMemory) => Err(Stop::NoMemory),

@@ -8,10 +8,7 @@ ghost use Rattle.coord_text.specs.Claims.{text_of};
 ghost use Rattle.coord_run.specs.Pieces.{LeavesRest};
 
 use cert_text::CertPrinter;
-use coord_io::{Failed, Folder, append_whole};
-
-/// The most bytes that are gathered before they are handed to the folder.
-pub const PIECE: usize = 65_536;
+use coord_io::{Failed, Folder, PIECE, append_whole};
 
 /// Starts the file of that name and writes the lines that the printer has still to print, gathered in `room`.
 ///

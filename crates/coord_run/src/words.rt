@@ -9,20 +9,9 @@ ghost use Rattle.coord_run.specs.Words.{solve, three_names};
 
 use crate::rules::{name_in, one_name_rules, solve_rules, three_names_rules};
 use clap::error::ErrorKind;
+use coord_model::limits::{FEWEST_RING_BUSES, GREATEST_BUDGET, GREATEST_GAP, MOST_RING_BUSES};
 use coord_text::read_number;
 use std::alloc::{AllocError, Global};
-
-/// The greatest gap that may be asked for.
-const MAX_GAP: u64 = 1_000_000_000_000;
-
-/// The greatest budget.
-const MAX_BUDGET: u64 = 200_000;
-
-/// The fewest buses of a ring.
-const MIN_BUSES: u32 = 3;
-
-/// The most buses of a ring.
-const MAX_BUSES: u64 = 48;
 
 /// The budget if none is given.
 const DEFAULT_BUDGET: u32 = 20_000;
@@ -169,7 +158,7 @@ fn gap_of(word: Option<&str>) -> Option<Option<u64>>
     ensures within { IfSome result (λ gap. IfSome gap IsGap) }
 {
     match word {
-        Some(word) => Some(Some(number_up_to(word, MAX_GAP)?)),
+        Some(word) => Some(Some(number_up_to(word, GREATEST_GAP)?)),
         None => Some(None),
     }
 }
@@ -180,7 +169,7 @@ fn budget_of(word: Option<&str>) -> Option<u32>
     ensures within { IfSome result IsBudget }
 {
     match word {
-        Some(word) => Some(number_up_to(word, MAX_BUDGET)? as u32),
+        Some(word) => Some(number_up_to(word, GREATEST_BUDGET as u64)? as u32),
         None => Some(DEFAULT_BUDGET),
     }
 }
@@ -246,8 +235,12 @@ fn ring_of(word: &str) -> Option<u32>
     ensures exact { result ≡ ring_of word.now }
     ensures within { IfSome result IsRing }
 {
-    let n = number_up_to(word, MAX_BUSES)? as u32;
-    if n >= MIN_BUSES { Some(n) } else { None }
+    let n = number_up_to(word, MOST_RING_BUSES as u64)? as u32;
+    if n >= FEWEST_RING_BUSES {
+        Some(n)
+    } else {
+        None
+    }
 }
 
 /// The names of `solve`, and the words of its options.

@@ -4,10 +4,8 @@ ghost use Rattle.coord_text.specs.Claims.{amount, ending_word, BoundGoesWith, Co
 
 use crate::numbers::push_number;
 use crate::words::read_number;
+use coord_model::limits::GREATEST_COST;
 use coord_model::{Ending, NoMemory};
-
-/// The most that a cost or a bound is: 16 digits.
-const MOST: u64 = 9_999_999_999_999_999;
 
 /// The word for an ending.
 pub fn ending_word(ending: Ending) -> &'static [u8]
@@ -51,7 +49,7 @@ pub fn read_amount(word: &[u8]) -> Option<Option<u64>>
     if word == b"none".as_slice() {
         return Some(None);
     }
-    let n = read_number(word, MOST)?;
+    let n = read_number(word, GREATEST_COST)?;
     Some(Some(n))
 }
 

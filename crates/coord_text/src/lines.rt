@@ -3,8 +3,7 @@ ghost use Rattle.std.specs.Prelude.{◌≡◌, ◌≢◌, ℕ, ◌≤◌, List, 
 ghost use Rattle.std.specs.List.{list_all};
 ghost use Rattle.coord_text.specs.Lines.{EndsWithin, IsLine, is_printable, line_len, next_of};
 
-/// The most bytes of a line, its line feed aside.
-const LONGEST_LINE: usize = 2048;
+use coord_model::limits::MOST_LINE_BYTES;
 
 /// What stands at a place of a text, the first in this order that holds.
 #[derive(Clone, Copy, PartialEq, Eq, Debug)]
@@ -32,7 +31,7 @@ pub fn next_line(bytes: &[u8], place: usize) -> NextLine
         return NextLine::End;
     }
     let len = line_len(left);
-    if len > LONGEST_LINE {
+    if len > MOST_LINE_BYTES {
         return NextLine::TooLong;
     }
     if len == left.len() {

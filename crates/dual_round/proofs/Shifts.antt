@@ -6,7 +6,7 @@ use Rattle.std.specs.Int.RustNames.{unsigned_abs}
 use Rattle.std.specs.Int.Signed.{mag_shr, shr_z}
 use Rattle.std.proofs.Math.Nat.{pow-le-pow_right}
 use mir.Syntax.{w128}
-use Rattle.dual_round.specs.Scaled.{within_32_bits, weight_of}
+use Rattle.dual_round.specs.Scaled.{within_32_bits, rounded_weight}
 
 -- the cap on both sides, without its sign
 capped : (z r top : ℤ) → r ≡ int_max (pos 0) (int_min z top) → top ≡ pos 4294967295 → unsigned_abs r ≡ within_32_bits z
@@ -35,7 +35,7 @@ shifted v half k fits whole =
 pub weight_is : (v half r top : ℤ) (places : ℕ) → FitsSigned w128 v → unsigned_abs v < 2 ^ 126 → 1 ≤ places → places ≤ 64
     → half ≡ to_z w128 (1 * 2 ^ (places - 1) % 340282366920938463463374607431768211456)
     → r ≡ int_max (pos 0) (int_min (to_z w128 (of_z w128 (shr_z (to_z w128 (of_z w128 (to_z w128 (of_z w128 v) +ℤ half))) (2 ^ places)))) top)
-    → top ≡ pos 4294967295 → FitsSigned w128 r → unsigned_abs (to_z w128 (of_z w128 r)) ≡ weight_of places v
+    → top ≡ pos 4294967295 → FitsSigned w128 r → unsigned_abs (to_z w128 (of_z w128 r)) ≡ rounded_weight places v
 weight_is v half r top places fits small some most halved is at fits_too =
     let power : half ≡ pos (2 ^ (places - 1)) = halved ∙ half_is places some most in
     let short : 2 ^ (places - 1) ≤ 2 ^ 63 = half_fits places some most in

@@ -13,12 +13,12 @@ within_32_bits (pos n) = min n (2 ^ 32 - 1)
 within_32_bits (negsuc n) = 0
 
 -- the weight of a number with `places` binary places
-abbrev pub weight_of : ℕ → ℤ → ℕ
-weight_of places v = within_32_bits (nearest places v)
+abbrev pub rounded_weight : ℕ → ℤ → ℕ
+rounded_weight places v = within_32_bits (nearest places v)
 
 -- the weight of a row, given by its number and its value
 abbrev pub row_weight : ℕ → ℕ × ℤ → Weight
-row_weight places r = record { row = r.0; weight = weight_of places r.1 }
+row_weight places r = record { row = r.0; weight = rounded_weight places r.1 }
 
 -- the weights of the rows in their order, without those that are 0
 abbrev pub weighed : ℕ → List (ℕ × ℤ) → List Weight

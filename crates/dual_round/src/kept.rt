@@ -7,10 +7,8 @@ ghost use Rattle.coord_model.specs.declared.weights.Weight.{Weight};
 ghost use Rattle.dual_round.specs.Kept.{ranks_before, Stays};
 
 use coord_model::Weight;
+use coord_model::limits::MOST_WEIGHTS;
 use std::cmp::Ordering;
-
-/// How many rows keep a weight.
-const MOST_ROWS: usize = 64;
 
 /// The largest weights, in the order of their rows. Of equal ones those of the lower rows.
 pub fn largest(mut weights: Vec<Weight>) -> Vec<Weight>
@@ -20,7 +18,7 @@ pub fn largest(mut weights: Vec<Weight>) -> Vec<Weight>
     ensures ascending { IsStrictlyIncreasing (map (λ w. w.row) result.items) }
 {
     weights.sort_unstable_by(|v, w| by_rank(v, w));
-    weights.truncate(MOST_ROWS);
+    weights.truncate(MOST_WEIGHTS);
     weights.sort_unstable_by_key(|w| w.row);
     weights
 }

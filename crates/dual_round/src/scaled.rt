@@ -1,7 +1,7 @@
 //! From a fixed-point number to a whole weight.
 ghost use Rattle.std.specs.Prelude.{◌≡◌, ◌≤◌, ◌<◌, ◌^◌, All, IfOk};
 ghost use Rattle.std.specs.Int.RustNames.{unsigned_abs};
-ghost use Rattle.dual_round.specs.Scaled.{weight_of, weighed};
+ghost use Rattle.dual_round.specs.Scaled.{rounded_weight, weighed};
 
 use coord_model::{NoMemory, Weight};
 use std::alloc::Global;
@@ -9,11 +9,11 @@ use std::alloc::Global;
 /// The weight of a number with `places` binary places.
 ///
 /// Rounded to the nearest whole number, a half up; then 0 where negative, and `u32::MAX` where larger.
-pub fn weight_of(v: i128, places: u32) -> u32
+pub fn rounded_weight(v: i128, places: u32) -> u32
     requires at_least_one { 1 ≤ places }
     requires at_most_64 { places ≤ 64 }
     requires fits { unsigned_abs v < 2 ^ 126 }
-    ensures { result ≡ weight_of places v }
+    ensures { result ≡ rounded_weight places v }
 {
     let half = 1i128 << (places - 1);
     let whole = (v + half) >> places;
@@ -29,7 +29,7 @@ pub fn weigh(alloc: Global, rows: &[(u16, i128)], places: u32) -> Result<Vec<Wei
 {
     let mut weights = Vec::new(alloc);
     for &(row, v) in rows {
-        let weight = weight_of(v, places);
+        let weight = rounded_weight(v, places);
         if weight > 0 {
             weights.push(Weight { row, weight })?;
         }

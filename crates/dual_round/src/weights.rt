@@ -5,10 +5,10 @@ ghost use Rattle.std.specs.List.{IsDistinct};
 ghost use Rattle.std.specs.List.Sorted.{IsStrictlyIncreasing};
 ghost use Rattle.coord_model.specs.declared.weights.Weight.{Weight};
 ghost use Rattle.dual_round.specs.Kept.{Stays};
-ghost use Rattle.dual_round.specs.Scaled.{weight_of, weighed};
+ghost use Rattle.dual_round.specs.Scaled.{rounded_weight, weighed};
 
 use crate::kept::largest;
-use crate::scaled::{weigh, weight_of};
+use crate::scaled::{rounded_weight, weigh};
 use coord_model::{NoMemory, Weights};
 use std::alloc::Global;
 
@@ -28,7 +28,7 @@ pub fn round(
     requires rows_fit { All (λ r. unsigned_abs r.1 < 2 ^ 126) rows.now }
     requires distinct { IsDistinct ◌==◌ (map (λ r. r.0) rows.now) }
 
-    ensures lambda { IfOk result (λ weights. weights.lambda ≡ weight_of places lambda) }
+    ensures lambda { IfOk result (λ weights. weights.lambda ≡ rounded_weight places lambda) }
     ensures kept { IfOk result (λ weights.
         (w : Weight) → Contains weights.rows.items w ↔ Stays (weighed places rows.now) w) }
 
@@ -39,7 +39,7 @@ pub fn round(
 {
     let weights = weigh(alloc, rows, places)?;
     Ok(Weights {
-        lambda: weight_of(lambda, places),
+        lambda: rounded_weight(lambda, places),
         rows: largest(weights),
     })
 }

@@ -8,14 +8,9 @@ ghost use Rattle.coord_model.specs.StudyData.{study_data};
 ghost use Rattle.fault_table.specs.Entry.{amps_in, entry_of, fault_named, is_digit, is_repeated, next_entry, record_of, relay_named, three_fields, value_of};
 
 use crate::fault::TableFault;
+use coord_model::limits::{GREATEST_AMPS, MOST_CURRENTS};
 use coord_model::{Current, Name, Study};
 use csv::ByteRecord;
-
-/// The most records that a table has.
-pub const MOST_RECORDS: u32 = 8_192;
-
-/// The most amperes of an entry.
-const MOST_AMPS: u32 = 100_000;
 
 /// The entry of the record after the earlier ones.
 #[tactic(auto, unfolding(crate::specs::Entry::next_entry))]
@@ -25,15 +20,15 @@ pub fn next_entry(
     fields: &ByteRecord,
 ) -> Result<Current, TableFault>
     requires fits { FitsStudy (study_data study.now) }
-    requires few { length earlier.now ≤ MOST_RECORDS }
+    requires few { length earlier.now ≤ 8192 }
     ensures exact { result ≡ next_entry (study_data study.now) earlier.now (fields_of fields.now) }
     ensures fits { IfOk result (FitsCurrent (study_data study.now)) }
-    ensures room { IfOk result (λ _. length earlier.now < MOST_RECORDS) }
+    ensures room { IfOk result (λ _. length earlier.now < 8192) }
 {
     let n = earlier.len() as u32 + 1;
-    if n > MOST_RECORDS {
+    if n > MOST_CURRENTS {
         return Err(TableFault::TooMany {
-            limit: MOST_RECORDS,
+            limit: MOST_CURRENTS,
         });
     }
     let entry = record_of(study, n, fields)?;
@@ -125,13 +120,17 @@ fn relay_named(study: &Study, name: &[u8]) -> Option<u16>
 #[tactic(auto, unfolding(crate::specs::Entry::amps_in))]
 fn amps_in(field: &[u8]) -> Option<u32>
     ensures exact { result ≡ amps_in field.now }
-    ensures limit { IfSome result (λ amps. amps ≤ MOST_AMPS) }
+    ensures limit { IfSome result (λ amps. amps ≤ 100000) }
 {
     if !(1 <= field.len() && field.len() <= 6 && are_digits(field)) {
         return None;
     }
     let amps = value_of(field);
-    if amps <= MOST_AMPS { Some(amps) } else { None }
+    if amps <= GREATEST_AMPS {
+        Some(amps)
+    } else {
+        None
+    }
 }
 
 /// Whether each byte is a decimal digit.

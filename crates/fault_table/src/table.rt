@@ -7,7 +7,7 @@ ghost use Rattle.coord_model.specs.StudyData.{entries_of, study_data};
 ghost use Rattle.fault_table.specs.Records.{IsReading, records_left};
 ghost use Rattle.fault_table.specs.Table.{AreForOne, HavePrimaries, currents_of, GoesOn, entries_from, feeds, is_header, table_of, unfed_fault};
 
-use crate::entry::{MOST_RECORDS, next_entry, three_fields};
+use crate::entry::{next_entry, three_fields};
 use crate::fault::TableFault;
 use crate::records::next_record;
 use coord_model::{Current, Currents, Study};
@@ -106,14 +106,14 @@ fn read_entry<R: Read>(
 ) -> Result<Option<Current>, TableFault>
     requires fits { FitsStudy (study_data study.now) }
     requires reading { IsReading R.remaining reader.old }
-    requires few { length earlier.now ≤ MOST_RECORDS }
+    requires few { length earlier.now ≤ 8192 }
     ensures next { IfOk result (λ found. GoesOn (study_data study.now) earlier.now
         (λ n. records_left R.remaining n reader.old) (λ n. records_left R.remaining n reader.new) found) }
     ensures fault { IfErr result (λ fault. fault ≢ TableFault.NoMemory → (n : ℕ)
         → entries_from (study_data study.now) earlier.now (records_left R.remaining (suc n) reader.old) ≡ Err fault) }
     ensures reading { IfOk result (λ found. IsSome found → IsReading R.remaining reader.new) }
     ensures fits { IfOk result (λ found. IfSome found (FitsCurrent (study_data study.now))) }
-    ensures room { IfOk result (λ found. IsSome found → length earlier.now < MOST_RECORDS) }
+    ensures room { IfOk result (λ found. IsSome found → length earlier.now < 8192) }
 {
     if !next_record(reader, fields)? {
         return Ok(None);

@@ -3,10 +3,8 @@ use crate::basis::{Basis, Point};
 use crate::fixed::{Stop, at, put};
 use crate::programme::Programme;
 use crate::simplex::{Solved, solve};
+use coord_model::limits::MOST_WEIGHTS;
 use std::alloc::Global;
-
-/// The most rows with weights.
-const MOST_WEIGHTS: usize = 64;
 
 /// The most times that rows are taken out of use for one box.
 const ROUNDS: u32 = 12;

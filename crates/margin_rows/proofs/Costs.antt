@@ -6,10 +6,10 @@ use Rattle.std.specs.Int.{div_ceil}
 use Rattle.std.proofs.Math.Nat.{mul-le-mul_left, mul-le-mul_right}
 use Rattle.std.proofs.lemmas.List.Elements.{All-head, All-tail}
 use Rattle.std.proofs.lemmas.List.Sums.{sum_by-cons}
-use Rattle.coord_model.specs.Allowed.{dial_of}
 use Rattle.coord_model.specs.Choice.{Settings}
 use Rattle.coord_model.proofs.Quotients.{floor_within, ceil_covers}
 use Rattle.coord_model.specs.Cost.{CostsAtLeast, CostsAtMost, weight_of, weighted_sum}
+use Rattle.coord_model.specs.Dial.{dial_of}
 use Rattle.margin_rows.specs.Case.{Case, terms_in}
 use Rattle.margin_rows.specs.Margin.{time_of}
 use Rattle.margin_rows.specs.Price.{cost_of, lower_cost_of, greatest_sum, least_sum}

@@ -4,8 +4,9 @@ use Rattle.std.specs.Prelude.{slice_get, slice_index, pos, ◌≤ℤ◌, ◌+ℤ
 use Rattle.std.proofs.lemmas.Int.{ints}
 use Rattle.std.proofs.Math.Nat.{mul-le-mul_left, mul-le-mul_right, le_of_mul-le-mul_left}
 use Rattle.coord_model.proofs.OrderLaws.{under_is_at_most_over}
-use Rattle.coord_model.specs.Allowed.{IsOverTime, IsUnderTime, Keeps, KeepsKind, cti_of, dial_of}
+use Rattle.coord_model.specs.Allowed.{IsOverTime, IsUnderTime, Keeps, KeepsKind, cti_of}
 use Rattle.coord_model.specs.Choice.{Settings}
+use Rattle.coord_model.specs.Dial.{dial_of}
 use Rattle.coord_model.specs.Form.{form_of}
 use Rattle.coord_model.specs.Rows.{amps_at, least_ms_of, most_ms_of}
 use Rattle.coord_model.specs.StudyData.{StudyData}

@@ -1,24 +1,25 @@
 -- What the operating times of a case keep, for this crate and those above: by the pickup steps that sense the current.
 use Rattle.std.specs.Prelude.{slice_get}
-use Rattle.std.proofs.Common.{◌≡◌, ℕ, ◌<◌, ◌≤◌, Some, sym, ◌∙◌, subst}
+use Rattle.std.proofs.Common.{◌≡◌, ℕ, ◌<◌, ◌≤◌, Some, arith, sym, ◌∙◌, subst}
 use Rattle.coord_model.specs.Allowed.{IsUsed, Senses}
 use Rattle.coord_model.specs.Enclosure.{IsNotAbove}
 use Rattle.coord_model.specs.Rows.{amps_at}
 use Rattle.coord_model.specs.declared.study.Relay.{Relay}
 use Rattle.margin_rows.specs.Case.{Case, FitsCase}
 use Rattle.margin_rows.specs.FirstBox.{IsFirstStep}
-use Rattle.margin_rows.specs.Tables.{IsTimed}
+use Rattle.margin_rows.specs.Reach.{IsTimed}
 use Rattle.margin_rows.specs.Times.{time_at, IsOrdinary}
 use Rattle.margin_rows.proofs.Boxed.{first_is_timed}
 use Rattle.margin_rows.proofs.Places.{and_some}
 use Rattle.margin_rows.proofs.Rising.{timed_at, relay_falls}
-use Rattle.margin_rows.proofs.Timed.{enclosed}
+use Rattle.margin_rows.proofs.Timed.{enclosed, steps_there}
 
 -- a pickup step of the first box senses the relay's current at each fault where the relay is used
 pub first_step_senses : (case : Case) (f i step : ℕ) → IsUsed case.study case.currents f i → IsFirstStep case i step → IsTimed case f i step
 first_step_senses case f i step used first =
     let timed = first_is_timed case f i step used first in
-    and_some (slice_get case.study.relays i) (λ r. (step < r.plug_count) × Senses case.study r step (amps_at case.currents f i)) timed.relay timed.found (timed.below, timed.senses)
+    let steps = steps_there case i timed.relay timed.found in
+    (omega (arith, timed.below, steps), and_some (slice_get case.study.relays i) (λ r. Senses case.study r step (amps_at case.currents f i)) timed.relay timed.found timed.senses)
 
 -- a sensed time is above 0, with its ends in order and below 2^40
 pub sensed_time_is_ordinary : (case : Case) (f i step : ℕ) → FitsCase case → IsTimed case f i step → IsOrdinary (time_at case f i step)

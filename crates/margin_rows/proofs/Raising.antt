@@ -11,8 +11,9 @@ use Rattle.std.specs.Int.{div_ceil}
 use Rattle.std.specs.List.{All, Contains, sum_by}
 use Rattle.std.specs.Option.{IfSome, IsSomeAnd}
 use Rattle.coord_model.proofs.Quotients.{ceil_covers, ceil_least}
-use Rattle.coord_model.specs.Allowed.{IsOnSteps, IsSensible, dial_of}
+use Rattle.coord_model.specs.Allowed.{IsOnSteps, IsSensible}
 use Rattle.coord_model.specs.Choice.{Settings}
+use Rattle.coord_model.specs.Dial.{dial_at_step, dial_of}
 use Rattle.coord_model.specs.PartLimits.{FitsRelay}
 use Rattle.coord_model.specs.StudyData.{StudyData}
 use Rattle.coord_model.specs.Time.{dial_at}
@@ -22,7 +23,6 @@ use Rattle.coord_model.specs.declared.study.RowKind.{RowKind}
 use Rattle.coord_model.specs.declared.study.RowKind.TheVariants.{Interval, Least, Most}
 use Rattle.margin_rows.specs.Box.{IsDialStep}
 use Rattle.margin_rows.specs.Case.{Case, FitsCase, row_at, rows_in}
-use Rattle.margin_rows.specs.Dial.{dial_at_step}
 use Rattle.margin_rows.specs.FirstBox.{IsFirstStep, IsInFirstBox}
 use Rattle.margin_rows.specs.Least.{AreFirstPickups, IsStrict, IsStrictLeast, IsStrictLeastOf}
 use Rattle.margin_rows.specs.Demands.{slow_part, fast_part, asked_ps, granted_ps}

@@ -21,7 +21,7 @@ use Rattle.margin_rows.specs.declared.runs.Runs.{Runs}
 use Rattle.margin_rows.specs.declared.ends.Ends.{Ends}
 use Rattle.margin_rows.specs.Times.{relay_time, time_at, ends_of}
 use Rattle.margin_rows.proofs.Places.{some_and, and_some}
-use Rattle.margin_rows.proofs.Timed.{time_found}
+use Rattle.margin_rows.proofs.Timed.{steps_there, time_found}
 
 -- the cell of a step that senses the current is its time
 pub cell_sensed : (study : StudyData) (relay : Relay) (amps step : ℕ) → Senses study relay step amps → cell study relay amps step ≡ ends_of (relay_time study.cap relay step amps)
@@ -59,24 +59,19 @@ pub run_pushed : (case : Case) (times : List Ends) (f r : ℕ) (relay : Relay) �
 run_pushed case times f r relay found =
     record {
       each = λ step timed.
-          let parts = some_and (slice_get case.study.relays r) (λ x. (step < x.plug_count) × Senses case.study x step (amps_at case.currents f r)) timed in
-          let same : parts.0 ≡ relay = same_some parts.0 relay (sym parts.1 ∙ found) in
-          let P : Relay → Type 0 = λ x. (step < x.plug_count) × Senses case.study x step (amps_at case.currents f r) in
-          placed step (subst P same parts.2);
+          let senses = subst (λ (o : Option Relay). IsSomeAnd o (λ x. Senses case.study x step (amps_at case.currents f r))) found timed.1 in
+          placed step (omega (arith, timed.0, steps_there case r relay found)) senses;
     }
   where
-    same_some : {X : Type 0} (x y : X) → Some x ≡ Some y → x ≡ y
-    same_some x y e = cc
-
-    placed : (step : ℕ) → (step < relay.plug_count) × Senses case.study relay step (amps_at case.currents f r)
+    placed : (step : ℕ) → step < relay.plug_count → Senses case.study relay step (amps_at case.currents f r)
         → slice_get (times ++ cells case.study relay (amps_at case.currents f r)) (length times + step) ≡ Some (ends_of (time_at case f r step))
-    placed step fact =
+    placed step below senses =
         let run = cells case.study relay (amps_at case.currents f r) in
         let count = length-map-range_with_len (cell case.study relay (amps_at case.currents f r)) 0 relay.plug_count in
-        slice_get-get_or (times ++ run) (length times + step) no_time (omega (arith, fact.0, count, length-append times run))
+        slice_get-get_or (times ++ run) (length times + step) no_time (omega (arith, below, count, length-append times run))
         ∙ ap Some (get_or-append-add times run step no_time
-        ∙ get_or-map-range_with_len (cell case.study relay (amps_at case.currents f r)) 0 relay.plug_count step step no_time fact.0 (omega arith)
-        ∙ cell_sensed case.study relay (amps_at case.currents f r) step fact.1
+        ∙ get_or-map-range_with_len (cell case.study relay (amps_at case.currents f r)) 0 relay.plug_count step step no_time below (omega arith)
+        ∙ cell_sensed case.study relay (amps_at case.currents f r) step senses
         ∙ ap (λ (e : _). ends_of e) (sym (time_found case f r step relay found)))
 
 -- the run that the code puts at the end

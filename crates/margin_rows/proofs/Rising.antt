@@ -10,12 +10,12 @@ use Rattle.coord_model.specs.Rows.{amps_at}
 use Rattle.coord_model.specs.Time.{Multiple, sensed_multiple, capped}
 use Rattle.coord_model.specs.declared.study.Relay.{Relay}
 use Rattle.margin_rows.specs.Case.{Case, FitsCase}
-use Rattle.margin_rows.specs.Tables.{IsTimed}
+use Rattle.margin_rows.specs.Reach.{IsTimed}
 use Rattle.margin_rows.specs.Times.{time_at}
 use Rattle.margin_rows.proofs.Curves.{time_falls}
 use Rattle.margin_rows.proofs.Multiples.{plug_rises, multiple_small, sensed_enclosable}
 use Rattle.margin_rows.proofs.Places.{some_and}
-use Rattle.margin_rows.proofs.Timed.{IsTimedAt, amps_few, at_place, time_found}
+use Rattle.margin_rows.proofs.Timed.{IsTimedAt, amps_few, at_place, steps_there, time_found}
 
 -- the multiple of a later step is at most that of an earlier one
 multiple_falls : (relay : Relay) (step later amps : ℕ) → step ≤ later → IsAtMost (sensed_multiple relay later amps) (sensed_multiple relay step amps)
@@ -44,8 +44,9 @@ capped_at_most cap m m' some grows = capped_cases cap m m' (leb (cap * m.den) m.
 -- a step that senses the current, with its relay
 pub timed_at : (case : Case) (f i step : ℕ) → IsTimed case f i step → IsTimedAt case f i step
 timed_at case f i step timed =
-    let found = some_and (slice_get case.study.relays i) (λ r. (step < r.plug_count) × Senses case.study r step (amps_at case.currents f i)) timed in
-    record { relay = found.0; found = found.1; below = found.2.0; senses = found.2.1 }
+    let found = some_and (slice_get case.study.relays i) (λ r. Senses case.study r step (amps_at case.currents f i)) timed.1 in
+    let steps = steps_there case i found.0 found.1 in
+    record { relay = found.0; found = found.1; below = omega (arith, timed.0, steps); senses = found.2 }
 
 -- neither does the time of a relay
 pub relay_falls : (case : Case) (f i step later : ℕ) (relay : Relay) → FitsCase case → slice_get case.study.relays i ≡ Some relay

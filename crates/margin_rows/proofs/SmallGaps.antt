@@ -2,9 +2,8 @@
 use Rattle.std.specs.Prelude.{◌==◌, if◌then◌else◌}
 use Rattle.std.specs.Int.{div_ceil}
 use Rattle.std.specs.List.{All, Contains}
-use Rattle.std.proofs.Common.{ℕ, ◌+◌, ◌*◌, ◌^◌, ◌<◌, ◌≤◌, Bool, true, false, inl, inr, length, get_or, arith}
-use Rattle.std.proofs.lemmas.List.Elements.{Contains-get_or}
-use Rattle.std.proofs.lemmas.List.Sums.{sum_by-le}
+use Rattle.std.proofs.Common.{ℕ, ◌+◌, ◌*◌, ◌^◌, ◌<◌, ◌≤◌, Bool, true, false, inl, inr, List, [], ◌∷◌, length, arith}
+use Rattle.std.proofs.lemmas.List.Elements.{All-head, All-tail, Contains-get_or}
 use Rattle.coord_model.specs.Cost.{weight_of}
 use Rattle.coord_model.specs.Enclosure.{root_width, width_of}
 use Rattle.coord_model.specs.Form.{form_of, is_custom}
@@ -12,7 +11,7 @@ use Rattle.coord_model.specs.PartLimits.{FitsRelay}
 use Rattle.coord_model.specs.declared.curve.CurveForm.{CurveForm}
 use Rattle.coord_model.specs.declared.study.Term.{Term}
 use Rattle.margin_rows.specs.Case.{Case, FitsCase, terms_in}
-use Rattle.margin_rows.specs.Gap.{IsGreatestWidth, IsWidthSum, last_dial, width_part}
+use Rattle.margin_rows.specs.Gap.{AddsUpTo, IsGreatestWidth, IsWidthSum, last_dial}
 use Rattle.margin_rows.specs.Times.{width_at}
 use Rattle.margin_rows.proofs.Boxed.{first_is_timed}
 use Rattle.margin_rows.proofs.Listed.{term_facts}
@@ -59,15 +58,18 @@ part_few weight dial width light low narrow = grind arith
 ceil_few : (sum : ℕ) → sum ≤ 512 * 75000000000 → div_ceil sum 1000000 + 1 ≤ 10 ^ 12
 ceil_few sum few = omega (arith, few)
 
+-- so many terms come to at most this
+adds_few : (case : Case) (terms : List Term) (sum : ℕ) → FitsCase case → All (Contains (terms_in case)) terms → AddsUpTo case terms sum → sum ≤ length terms * 75000000000
+adds_few case [] sum fits listed adds = omega (arith, adds)
+adds_few case (t ∷ terms) sum fits listed adds =
+    let here = All-head (Contains (terms_in case)) t terms listed in
+    let facts = term_facts case t here in
+    let first = part_few (weight_of case.study t.fault) (last_dial case.study t.relay) adds.0
+    (weight_small case t.fault fits facts.fault) (last_few case t.relay fits facts.relay) (greatest_few case t adds.0 fits here adds.2) in
+    omega (arith, first, adds_few case terms adds.1 fits (All-tail (Contains (terms_in case)) t terms listed) adds.3, adds.4)
+
 -- the sum of widths in whole weighted microseconds
 pub width_sum_few : (case : Case) (sum : ℕ) → FitsCase case → IsWidthSum case sum → div_ceil sum 1000000 + 1 ≤ 10 ^ 12
 width_sum_few case sum fits is =
-    let each : All (λ term. width_part case is.width term ≤ 75000000000) (terms_in case) = λ k d below.
-    let term : Term = get_or (terms_in case) k d in
-    let listed = Contains-get_or (terms_in case) k d below in
-    let facts = term_facts case term listed in
-    part_few (weight_of case.study term.fault) (last_dial case.study term.relay) (is.width term)
-    (weight_small case term.fault fits facts.fault) (last_few case term.relay fits facts.relay)
-    (greatest_few case term (is.width term) fits listed (is.greatest k d below)) in
-    let whole = sum_by-le (width_part case is.width) 75000000000 (terms_in case) each in
-    ceil_few sum (omega (arith, is.adds_up, whole, terms_few case fits.study))
+    let few = adds_few case (terms_in case) sum fits (λ k d below. Contains-get_or (terms_in case) k d below) is in
+    ceil_few sum (omega (arith, few, terms_few case fits.study))

@@ -15,6 +15,7 @@ use Rattle.coord_model.specs.Time.{sensed_multiple, capped, IsUnder, IsOver}
 use Rattle.coord_model.specs.declared.study.Current.{Current}
 use Rattle.coord_model.specs.declared.study.Relay.{Relay}
 use Rattle.margin_rows.specs.Case.{Case}
+use Rattle.margin_rows.specs.Reach.{steps_of}
 use Rattle.margin_rows.specs.Times.{relay_time, time_at, width_at, IsOrdinary}
 use Rattle.margin_rows.proofs.Curves.{time_keeps, time_is_ordinary}
 use Rattle.margin_rows.proofs.Multiples.{sensed_enclosable}
@@ -52,6 +53,10 @@ pub record IsEnclosed (case : Case) (f i step : ℕ) : Type 0 where
   pub under : IsUnder (form_of relay.curve) (capped case.study.cap (sensed_multiple relay step (amps_at case.currents f i))) (time_at case f i step).lower (10 ^ 9)
   pub over : IsOver (form_of relay.curve) (capped case.study.cap (sensed_multiple relay step (amps_at case.currents f i))) (time_at case f i step).upper (10 ^ 9)
   pub enclosable : IsEnclosable (capped case.study.cap (sensed_multiple relay step (amps_at case.currents f i)))
+
+-- the pickup steps of a relay that is there
+pub steps_there : (case : Case) (i : ℕ) (relay : Relay) → slice_get case.study.relays i ≡ Some relay → steps_of case i ≡ relay.plug_count
+steps_there case i relay found = rw found refl
 
 -- the time of a relay that is there
 pub time_found : (case : Case) (f i step : ℕ) (relay : Relay) → slice_get case.study.relays i ≡ Some relay

@@ -2,7 +2,7 @@
 use Rattle.std.specs.Prelude.{slice_get, IfSome, IsSomeAnd}
 use Rattle.std.proofs.Common.{◌≡◌, ◌<◌, ℕ, suc, zero, List, [], ◌∷◌, ◌++◌, length, replicate, set, get_or, Some, arith, sym, refl, ap, ◌∙◌, subst, inl, inr}
 use Rattle.std.proofs.lemmas.Bool.{cases_lt}
-use Rattle.std.proofs.lemmas.List.{set-set, set-get_or, get_or-replicate, length-replicate, get_or_past}
+use Rattle.std.proofs.lemmas.List.{get_or-replicate, length-replicate, get_or_past}
 use Rattle.std.proofs.lemmas.Option.{get_or_from_slice_get, slice_get-get_or}
 use Rattle.margin_rows.proofs.Places.{some_and}
 
@@ -20,10 +20,6 @@ each_put P (x ∷ xs) zero y each here zero = here
 each_put P (x ∷ xs) zero y each here (suc i) = each (suc i)
 each_put P (x ∷ xs) (suc at) y each here zero = each zero
 each_put P (x ∷ xs) (suc at) y each here (suc i) = each_put (λ k. P (suc k)) xs at y (λ k. each (suc k)) here i
-
--- the value put back
-pub put_back : {X : Type 0} (xs : List X) (at : ℕ) (x y : X) → slice_get xs at ≡ Some x → set (set xs at y) at x ≡ xs
-put_back xs at x y found = set-set xs at y x ∙ ap (λ (z : _). set xs at z) (sym (get_or_from_slice_get xs at x x found)) ∙ set-get_or xs at x
 
 -- the value that was put
 pub put_found : {X : Type 0} (xs : List X) (at : ℕ) (x y : X) → slice_get xs at ≡ Some x → slice_get (set xs at y) at ≡ Some y

@@ -1,6 +1,6 @@
 -- The first box (ours): all dial steps of each relay, and the pickup steps that sense each current that counts and
 -- clear the load.
-use Rattle.std.specs.Prelude.{ℕ, ◌<◌, ◌≤◌, Option, Some, None, length, slice_get, slice_index, IfSome, IsSomeAnd}
+use Rattle.std.specs.Prelude.{ℕ, ◌<◌, ◌≤◌, Option, Some, None, slice_get, slice_index, IfSome, IsSomeAnd}
 use Rattle.coord_model.specs.Allowed.{AreOnSteps, IsSensible}
 use Rattle.coord_model.specs.Choice.{Settings}
 use Rattle.margin_rows.specs.Case.{Case}
@@ -29,7 +29,3 @@ IsFirstSpanOf case relay (Some span) = IsFirstSpan case relay span.0 span.1
 pub record IsInFirstBox (case : Case) (settings : Settings) : Type 0 where
   pub on_steps : AreOnSteps case.study settings
   pub sensible : (i : ℕ) → IfSome (slice_get case.study.relays i) (λ relay. IsSensible case.study case.currents i relay (slice_index settings.pickup i))
-
--- the first box is empty: it has no pickup step of some relay
-abbrev pub HasEmptyFirstBox : Case → Type 0
-HasEmptyFirstBox case = (i : ℕ) × (i < length case.study.relays) × HasNoStep case i

@@ -1,7 +1,6 @@
 pub mod Box
 pub mod Case
 pub mod Demands
-pub mod Dial
 pub mod FirstBox
 pub mod Gap
 pub mod Given

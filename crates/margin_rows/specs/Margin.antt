@@ -1,8 +1,8 @@
 -- By how much settings keep a row, in picoseconds: loosely with the ends of the enclosures that favour the settings,
 -- strictly with those that do not (ours).
 use Rattle.std.specs.Prelude.{◌≡◌, ℕ, ℤ, pos, ◌+◌, ◌*◌, ◌≤◌, ◌-ℤ◌, slice_index}
-use Rattle.coord_model.specs.Allowed.{dial_of}
 use Rattle.coord_model.specs.Choice.{Settings}
+use Rattle.coord_model.specs.Dial.{dial_of}
 use Rattle.coord_model.specs.Enclosure.{Enclosure}
 use Rattle.coord_model.specs.StudyData.{StudyData}
 use Rattle.coord_model.specs.declared.study.Row.{Row}

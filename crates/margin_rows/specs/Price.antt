@@ -2,8 +2,8 @@
 use Rattle.std.specs.Prelude.{ℕ, ◌*◌, ◌/◌, ◌==◌, sum_by, if◌then◌else◌}
 use Rattle.std.specs.Int.{div_ceil}
 use Rattle.coord_model.specs.Choice.{Settings}
-use Rattle.coord_model.specs.Allowed.{dial_of}
 use Rattle.coord_model.specs.Cost.{weight_of, weighted_sum}
+use Rattle.coord_model.specs.Dial.{dial_of}
 use Rattle.coord_model.specs.declared.study.Term.{Term}
 use Rattle.margin_rows.specs.Case.{Case, terms_in}
 use Rattle.margin_rows.specs.Margin.{time_of}

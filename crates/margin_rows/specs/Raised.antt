@@ -1,10 +1,10 @@
 -- Raising dials, row by row, to the least that strictly meet them.
 use Rattle.std.specs.Prelude.{◌≡◌, ℕ, ◌+◌, ◌*◌, ◌^◌, ◌<◌, ◌≤◌, List, length, slice_index, set, sum_by, All}
 use Rattle.coord_model.specs.Choice.{Settings}
+use Rattle.coord_model.specs.Dial.{dial_at_step}
 use Rattle.coord_model.specs.declared.study.Row.{Row}
 use Rattle.margin_rows.specs.Box.{IsDialStep}
 use Rattle.margin_rows.specs.Case.{Case, rows_in}
-use Rattle.margin_rows.specs.Dial.{dial_at_step}
 use Rattle.margin_rows.specs.Least.{IsStrict}
 use Rattle.margin_rows.specs.Demands.{slow_part, fast_part, asked_ps, granted_ps}
 use Rattle.margin_rows.specs.Margin.{MeetsStrictly}

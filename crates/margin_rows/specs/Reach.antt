@@ -13,6 +13,10 @@ steps_of case i = option_map_or (λ relay. relay.plug_count) (slice_get case.stu
 abbrev pub SensesAt : Case → ℕ → ℕ → ℕ → Type 0
 SensesAt case f i step = IsSomeAnd (slice_get case.study.relays i) (λ relay. Senses case.study relay step (amps_at case.currents f i))
 
+-- it is a step of the relay's and senses its current at the fault
+abbrev pub IsTimed : Case → ℕ → ℕ → ℕ → Type 0
+IsTimed case f i step = (step < steps_of case i) × SensesAt case f i step
+
 -- the relay's pickup step clears the load
 abbrev pub ClearsAt : Case → ℕ → ℕ → Type 0
 ClearsAt case i step = IsSomeAnd (slice_get case.study.relays i) (λ relay. ClearsLoad case.study relay step)

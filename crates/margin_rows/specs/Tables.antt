@@ -1,8 +1,6 @@
 -- What an instance keeps beside its study: lists worked out once.
 use Rattle.std.specs.Prelude.{◌≡◌, ℕ, ◌+◌, ◌*◌, ◌<◌, nat_le, Some, sum_by, List, ◌++◌, length, map, slice_get, slice_index, IsSomeAnd, if◌then◌else◌}
 use Rattle.std.specs.List.{range_with_len}
-use Rattle.coord_model.specs.Allowed.{Senses}
-use Rattle.coord_model.specs.Rows.{amps_at}
 use Rattle.margin_rows.specs.Case.{Case, rows_in, terms_in}
 use Rattle.margin_rows.specs.FirstBox.{IsFirstStep, IsFirstSpanOf}
 use Rattle.coord_model.specs.StudyData.{StudyData}
@@ -11,16 +9,12 @@ use Rattle.coord_model.specs.declared.study.Relay.{Relay}
 use Rattle.coord_model.specs.declared.study.Term.{Term}
 use Rattle.margin_rows.specs.Demands.{demand_of}
 use Rattle.margin_rows.specs.Price.{term_part}
+use Rattle.margin_rows.specs.Reach.{IsTimed}
 use Rattle.margin_rows.specs.Times.{time_at, ends_of, relay_time}
 use Rattle.margin_rows.specs.declared.ends.Ends.{Ends}
 use Rattle.margin_rows.specs.declared.runs.RowRuns.{RowRuns}
 use Rattle.margin_rows.specs.declared.runs.Runs.{Runs}
 use Rattle.margin_rows.specs.declared.tables.Tables.{Tables}
-
--- the relay senses its current at the fault at this pickup step
-abbrev pub IsTimed : Case → ℕ → ℕ → ℕ → Type 0
-IsTimed case fault relay step =
-    IsSomeAnd (slice_get case.study.relays relay) (λ r. (step < r.plug_count) × Senses case.study r step (amps_at case.currents fault relay))
 
 -- the times of the relay at the fault stand in the list from this place on, by pickup step
 pub record HoldsRun (case : Case) (times : List Ends) (fault relay start : ℕ) : Type 0 where

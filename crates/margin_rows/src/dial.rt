@@ -1,7 +1,7 @@
 //! The dials of the relays.
 ghost use Rattle.std.specs.Prelude.{◌≡◌, ◌<◌, ◌≤◌};
+ghost use Rattle.coord_model.specs.Dial.{dial_at_step};
 ghost use Rattle.margin_rows.specs.Box.{IsDialStep};
-ghost use Rattle.margin_rows.specs.Dial.{dial_at_step};
 
 use crate::instance::Instance;
 

@@ -4,9 +4,6 @@ ghost use Rattle.std.specs.Prelude.{◌≡◌};
 use coord_model::NoMemory;
 use thiserror::Error;
 
-/// The most rows that an instance has.
-pub const ROW_LIMIT: u32 = 4_096;
-
 /// Why no instance is built.
 #[derive(Debug, Drop, Error)]
 pub enum BuildFault {

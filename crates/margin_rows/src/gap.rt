@@ -1,11 +1,10 @@
 //! The least gap between a cost and a bound that a search can be asked to close.
 ghost use Rattle.std.specs.Prelude.{◌≡◌, ℕ, ◌+◌, ◌*◌, ◌^◌, ◌<◌, ◌≤◌, length};
 ghost use Rattle.coord_model.specs.Choice.{Settings};
-ghost use Rattle.coord_model.specs.Cost.{weight_of};
 ghost use Rattle.coord_model.specs.declared.study.Term.{Term};
 ghost use Rattle.margin_rows.specs.Case.{terms_in, term_at, FitsCase};
 ghost use Rattle.margin_rows.specs.FirstBox.{IsInFirstBox, IsFirstSpan};
-ghost use Rattle.margin_rows.specs.Gap.{IsGreatestWidth, IsWidthSum, IsLeastGap, last_dial};
+ghost use Rattle.margin_rows.specs.Gap.{IsGreatestWidth, IsWidthSum, IsLeastGap, last_dial, width_part};
 ghost use Rattle.margin_rows.specs.Price.{cost_of, lower_cost_of};
 
 use crate::dial::dial_at;
@@ -42,7 +41,7 @@ fn width_sum(inst: &Instance) -> u128
 fn weighted_width(inst: &Instance, term: u16) -> u64
     requires { term < length (terms_in inst.now) }
 
-    ensures exact { let t : Term = term_at inst.now term in (width : ℕ) × IsGreatestWidth inst.now t.fault t.relay width × (result ≡ weight_of inst.now.study t.fault * last_dial inst.now.study t.relay * width) }
+    ensures exact { let t : Term = term_at inst.now term in (width : ℕ) × IsGreatestWidth inst.now t.fault t.relay width × (result ≡ width_part inst.now t width) }
     ensures small { result ≤ 16500000000000000000 }
 {
     let at = inst.term(term);

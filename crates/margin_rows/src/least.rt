@@ -6,10 +6,10 @@
 ghost use Rattle.std.specs.Prelude.{◌≡◌, ℕ, ◌*◌, ◌^◌, ◌<◌, ◌≤◌, length, Option, All, IfOk, IfSome, IsSomeAnd, IsTrue, IsFalse};
 ghost use Rattle.std.specs.Option.{option_map};
 ghost use Rattle.coord_model.specs.Choice.{Settings, choice_data};
+ghost use Rattle.coord_model.specs.Dial.{dial_at_step};
 ghost use Rattle.coord_model.specs.Time.{dial_at};
 ghost use Rattle.margin_rows.specs.Box.{IsDialStep};
 ghost use Rattle.margin_rows.specs.Case.{rows_in, row_at};
-ghost use Rattle.margin_rows.specs.Dial.{dial_at_step};
 ghost use Rattle.margin_rows.specs.FirstBox.{IsInFirstBox};
 ghost use Rattle.margin_rows.specs.Least.{AreFirstPickups, IsStrict, IsStrictLeastOf};
 ghost use Rattle.margin_rows.specs.Margin.{MeetsStrictly};

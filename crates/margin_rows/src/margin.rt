@@ -1,7 +1,8 @@
 //! By how much a choice keeps each row.
 ghost use Rattle.std.specs.Prelude.{◌≡◌, ◌*◌, ◌^◌, ◌<◌, ◌≤◌, ◌↔◌, pos, ◌≤ℤ◌, ◌+ℤ◌, length};
-ghost use Rattle.coord_model.specs.Allowed.{Keeps, dial_of};
+ghost use Rattle.coord_model.specs.Allowed.{Keeps};
 ghost use Rattle.coord_model.specs.Choice.{choice_data};
+ghost use Rattle.coord_model.specs.Dial.{dial_of};
 ghost use Rattle.coord_model.specs.declared.study.Row.{Row};
 ghost use Rattle.margin_rows.specs.Case.{rows_in, row_at, FitsCase};
 ghost use Rattle.margin_rows.specs.FirstBox.{IsInFirstBox};

@@ -6,9 +6,10 @@ ghost use Rattle.margin_rows.specs.Case.{rows_in, terms_in};
 ghost use Rattle.margin_rows.specs.Refusal.{HasCause};
 ghost use Rattle.margin_rows.specs.Waiting.{waits_at, has_limit};
 
-use crate::fault::{BuildFault, ROW_LIMIT};
+use crate::fault::BuildFault;
 use crate::given::Given;
 use crate::terms::is_primary;
+use coord_model::limits::MOST_ROWS;
 use coord_model::{NoMemory, Pair, Row, RowKind, Term};
 use std::alloc::Global;
 
@@ -29,8 +30,8 @@ pub fn rows(
     let mut rows = interval_rows(alloc, given, pairs)?;
     push_limit_rows(given, RowKind::Least, terms, &mut rows)?;
     push_limit_rows(given, RowKind::Most, terms, &mut rows)?;
-    if rows.len() > ROW_LIMIT as usize {
-        return Err(BuildFault::TooManyRows { limit: ROW_LIMIT });
+    if rows.len() > MOST_ROWS as usize {
+        return Err(BuildFault::TooManyRows { limit: MOST_ROWS });
     }
     Ok(rows)
 }
@@ -44,8 +45,8 @@ fn interval_rows(alloc: Global, given: &Given, pairs: &[Pair]) -> Result<Vec<Row
     let mut rows = Vec::new(alloc);
     for fault in 0..given.study().faults.len() as u16 {
         push_rows_at(given, pairs, fault, &mut rows)?;
-        if rows.len() > ROW_LIMIT as usize {
-            return Err(BuildFault::TooManyRows { limit: ROW_LIMIT });
+        if rows.len() > MOST_ROWS as usize {
+            return Err(BuildFault::TooManyRows { limit: MOST_ROWS });
         }
     }
     Ok(rows)

@@ -7,17 +7,15 @@ ghost use Rattle.margin_rows.specs.Tables.{HoldsRun, HoldsSums, HoldTermRuns};
 
 use crate::ends::Ends;
 use crate::given::Given;
+use coord_model::limits::MOST_PLUGS;
 use coord_model::{NoMemory, Term};
 use std::alloc::Global;
-
-/// The most pickup steps of a relay.
-const MOST_STEPS: usize = 64;
 
 /// The place of a relay's pickup step in the table of sums.
 pub fn place(relay: u16, step: u16) -> usize
     ensures { result ≡ relay * 64 + step }
 {
-    usize::from(relay) * MOST_STEPS + usize::from(step)
+    usize::from(relay) * MOST_PLUGS as usize + usize::from(step)
 }
 
 /// The sums of the relays' weighted times over the terms, in nanoseconds at dial 1: a place for each pickup step.
@@ -35,7 +33,7 @@ pub fn term_sums(
     requires starts { HoldTermRuns given.now times.now starts.now }
     ensures { IfOk result (λ sums. HoldsSums given.now (terms_in given.now) sums.items) }
 {
-    let mut sums = vec![in alloc; 0; given.study().relays.len() * MOST_STEPS]?;
+    let mut sums = vec![in alloc; 0; given.study().relays.len() * MOST_PLUGS as usize]?;
     add_terms(given, terms, spans, times, starts, sums.as_mut_slice());
     Ok(sums)
 }

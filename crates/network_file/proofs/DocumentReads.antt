@@ -78,9 +78,6 @@ pub array_count : {E : Type 0} (values : List Value) (slice entries : List E)
     → slice ≡ entries → length values ≡ length slice → length (listed (items_view values)) ≡ length entries
 array_count values slice entries same count = rw (listed_view values, ← same) (length-map values view ∙ count)
 
-format_reads : (format : ℕ) → IsBetween 1 format 4 → (nat_le 1 format && nat_le format 4) ≡ true
-format_reads format between = grind (arith, nat_tests)
-
 -- the members that are printed of what is told, with these for its tables
 module _ (format : ℕ) (inner : Members) (line_items relay_items fault_items exempt_items : Items) where
   abbrev first_members : Members

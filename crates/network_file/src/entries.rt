@@ -14,6 +14,11 @@ ghost use Rattle.toml.specs.View.{table_view};
 use crate::fault::NetFault;
 use crate::fields::Fields;
 use crate::new_table::NewTable;
+use coord_model::limits::{
+    GREATEST_AMPS, GREATEST_CAP, GREATEST_CT_PRIMARY, GREATEST_DIAL, GREATEST_FAULT_WEIGHT,
+    GREATEST_INTERVAL, GREATEST_LEAST_MS, GREATEST_LOAD_PERCENT, GREATEST_MOST_MS, GREATEST_PLUG,
+    GREATEST_SENSE, LEAST_CAP, LEAST_LOAD_PERCENT, LEAST_SENSE, MOST_DIALS, MOST_PLUGS,
+};
 use coord_model::{CurveName, Key, Name, NetKind};
 use std::alloc::{AllocError, Global};
 use toml::{Table, Value};
@@ -109,10 +114,15 @@ impl Entry for StudyEntry {
             &[Key::CtiMs, Key::Sense, Key::Cap, Key::LoadPercent],
         )?;
         Ok(StudyEntry {
-            cti_ms: fields.number(Key::CtiMs, 1, 10_000)?,
-            sense: fields.number_or(Key::Sense, 110, 105, 500)?,
-            cap: fields.number_or(Key::Cap, 20, 5, 30)?,
-            load_percent: fields.number_or(Key::LoadPercent, 120, 100, 300)?,
+            cti_ms: fields.number(Key::CtiMs, 1, GREATEST_INTERVAL)?,
+            sense: fields.number_or(Key::Sense, 110, LEAST_SENSE, GREATEST_SENSE)?,
+            cap: fields.number_or(Key::Cap, 20, LEAST_CAP, GREATEST_CAP)?,
+            load_percent: fields.number_or(
+                Key::LoadPercent,
+                120,
+                LEAST_LOAD_PERCENT,
+                GREATEST_LOAD_PERCENT,
+            )?,
         })
     }
 
@@ -166,17 +176,17 @@ impl Entry for RelayEntry {
             name,
             line,
             bus,
-            ct_primary: fields.number(Key::CtPrimary, 1, 10_000)?,
+            ct_primary: fields.number(Key::CtPrimary, 1, GREATEST_CT_PRIMARY)?,
             ct_secondary: secondary(fields)?,
-            plug_first: fields.number(Key::PlugFirst, 1, 10_000)?,
-            plug_step: fields.number_or(Key::PlugStep, 1, 1, 10_000)?,
-            plug_count: fields.number_or(Key::PlugCount, 1, 1, 64)?,
-            dial_first: fields.number(Key::DialFirst, 1, 15_000)?,
-            dial_step: fields.number_or(Key::DialStep, 1, 1, 15_000)?,
-            dial_count: fields.number_or(Key::DialCount, 1, 1, 4_000)?,
-            load_amps: fields.number_or(Key::LoadAmps, 0, 0, 100_000)?,
-            least_ms: fields.number_or(Key::LeastMs, 0, 0, 100_000)?,
-            most_ms: fields.number_or(Key::MostMs, 0, 0, 20_000_000)?,
+            plug_first: fields.number(Key::PlugFirst, 1, GREATEST_PLUG)?,
+            plug_step: fields.number_or(Key::PlugStep, 1, 1, GREATEST_PLUG)?,
+            plug_count: fields.number_or(Key::PlugCount, 1, 1, MOST_PLUGS)?,
+            dial_first: fields.number(Key::DialFirst, 1, GREATEST_DIAL)?,
+            dial_step: fields.number_or(Key::DialStep, 1, 1, GREATEST_DIAL)?,
+            dial_count: fields.number_or(Key::DialCount, 1, 1, MOST_DIALS)?,
+            load_amps: fields.number_or(Key::LoadAmps, 0, 0, GREATEST_AMPS)?,
+            least_ms: fields.number_or(Key::LeastMs, 0, 0, GREATEST_LEAST_MS)?,
+            most_ms: fields.number_or(Key::MostMs, 0, 0, GREATEST_MOST_MS)?,
             curve: fields.relay_curve(format)?,
         })
     }
@@ -282,7 +292,7 @@ impl Entry for FaultEntry {
         Ok(FaultEntry {
             name: fields.name(Key::Name)?,
             line: fields.name(Key::Line)?,
-            weight: fields.number_or(Key::Weight, 1, 1, 1_000)?,
+            weight: fields.number_or(Key::Weight, 1, 1, GREATEST_FAULT_WEIGHT)?,
         })
     }
 
@@ -328,7 +338,7 @@ impl Entry for IntervalEntry {
         Ok(IntervalEntry {
             backup: fields.name(Key::Backup)?,
             primary: fields.name(Key::Primary)?,
-            cti_ms: fields.number(Key::CtiMs, 1, 10_000)?,
+            cti_ms: fields.number(Key::CtiMs, 1, GREATEST_INTERVAL)?,
         })
     }
 

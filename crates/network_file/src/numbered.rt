@@ -12,14 +12,9 @@ ghost use Rattle.network_file.specs.Numbered.{line_in, within_curve, relay_at, i
 use crate::entries::{FaultEntry, LineEntry, RelayEntry};
 use crate::fault::{NetFault, Place};
 use crate::names::{Names, add_new, number_in};
+use coord_model::limits::{GREATEST_DIAL, GREATEST_PLUG};
 use coord_model::{CurveForm, CurveName, Fault, Key, Line, NetKind, Relay};
 use curve_custom::CustomCurve;
-
-/// The greatest plug, in hundredths of a secondary ampere.
-const GREATEST_PLUG: u64 = 10_000;
-
-/// The greatest dial, in thousandths.
-const GREATEST_DIAL: u64 = 15_000;
 
 /// The buses and the lines of a study, and the numbers of their names.
 #[derive(Drop)]
@@ -92,10 +87,10 @@ pub(crate) fn relay_in(
         return Err(place.fault(NetKind::TwoRelaysAtEnd, Key::Bus));
     }
     within_curve(place, entry.curve)?;
-    if last(entry.plug_first, entry.plug_step, entry.plug_count) > GREATEST_PLUG {
+    if last(entry.plug_first, entry.plug_step, entry.plug_count) > GREATEST_PLUG as u64 {
         return Err(place.fault(NetKind::OutOfRange, Key::PlugCount));
     }
-    if last(entry.dial_first, entry.dial_step, entry.dial_count) > GREATEST_DIAL {
+    if last(entry.dial_first, entry.dial_step, entry.dial_count) > GREATEST_DIAL as u64 {
         return Err(place.fault(NetKind::OutOfRange, Key::DialCount));
     }
     if entry.most_ms > 0 && entry.most_ms < entry.least_ms {

@@ -17,6 +17,7 @@ use crate::names::Names;
 use crate::numbered::{Grid, fault_on, line_in, relay_in};
 use crate::pairs::{exempt_in, interval_in};
 use crate::told::{Told, place_after, within};
+use coord_model::limits::{MOST_BUSES, MOST_PICKUP_STEPS};
 use coord_model::{Exempt, Fault, Line, PairInterval, Relay, Study, TableName, What};
 use std::alloc::{AllocError, Global};
 
@@ -29,7 +30,7 @@ pub(crate) fn study_of(alloc: Global, told: &Told) -> Result<Study, NetFault>
 {
     let grid = grid_of(alloc, &told.lines)?;
     let (relays, relay_names) = relays_of(alloc, &grid, &told.relays)?;
-    within(What::PickupSteps, 3_072, pickup_steps(&relays))?;
+    within(What::PickupSteps, MOST_PICKUP_STEPS, pickup_steps(&relays))?;
     let faults = faults_of(alloc, &grid, &told.faults)?;
     let exempt = exempt_of(alloc, &relay_names, &told.exempt)?;
     let intervals = intervals_of(alloc, &relay_names, &told.intervals)?;
@@ -61,7 +62,7 @@ fn grid_of(alloc: Global, entries: &[LineEntry]) -> Result<Grid, NetFault>
 {
     let buses = buses_of(alloc, entries)?;
     let (lines, line_names) = lines_of(alloc, &buses, entries)?;
-    within(What::Buses, 64, buses.len())?;
+    within(What::Buses, MOST_BUSES, buses.len())?;
     Ok(Grid {
         buses,
         line_names,

@@ -13,6 +13,7 @@ use crate::entries::{
 };
 use crate::fault::{NetFault, Place};
 use crate::fields::{Fields, member};
+use coord_model::limits::{MOST_EXEMPT, MOST_FAULTS, MOST_INTERVALS, MOST_LINES, MOST_RELAYS};
 use coord_model::{Key, NetKind, TableName, What};
 use std::alloc::Global;
 use toml::{Table, Value};
@@ -102,7 +103,7 @@ fn lines_at(alloc: Global, format: u32, document: &Table) -> Result<Vec<LineEntr
     ensures count { IfOk result (λ v. IsBetween 1 (vec_len v) 64) }
 {
     let elements = some_elements_at(document, Key::Line)?;
-    within(What::Lines, 64, elements.len())?;
+    within(What::Lines, MOST_LINES, elements.len())?;
     entries_of(alloc, format, TableName::Line, elements)
 }
 
@@ -113,7 +114,7 @@ fn relays_at(alloc: Global, format: u32, document: &Table) -> Result<Vec<RelayEn
     ensures keeps { IfOk result (λ v. All (RelaySuits format) v.items) }
 {
     let elements = some_elements_at(document, Key::Relay)?;
-    within(What::Relays, 96, elements.len())?;
+    within(What::Relays, MOST_RELAYS, elements.len())?;
     entries_of(alloc, format, TableName::Relay, elements)
 }
 
@@ -124,7 +125,7 @@ fn faults_at(alloc: Global, format: u32, document: &Table) -> Result<Vec<FaultEn
     ensures keeps { IfOk result (λ v. All FaultKeeps v.items) }
 {
     let elements = elements_at(document, Key::Fault)?;
-    within(What::Faults, 256, elements.len())?;
+    within(What::Faults, MOST_FAULTS, elements.len())?;
     entries_of(alloc, format, TableName::Fault, elements)
 }
 
@@ -134,7 +135,7 @@ fn exempt_at(alloc: Global, format: u32, document: &Table) -> Result<Vec<ExemptE
     ensures count { IfOk result (λ v. vec_len v ≤ 1024) }
 {
     let elements = elements_at(document, Key::Exempt)?;
-    within(What::Exempt, 1_024, elements.len())?;
+    within(What::Exempt, MOST_EXEMPT, elements.len())?;
     entries_of(alloc, format, TableName::Exempt, elements)
 }
 
@@ -149,7 +150,7 @@ fn intervals_at(
     ensures keeps { IfOk result (λ v. All IntervalKeeps v.items) }
 {
     let elements = elements_at(document, Key::Interval)?;
-    within(What::Intervals, 1_024, elements.len())?;
+    within(What::Intervals, MOST_INTERVALS, elements.len())?;
     entries_of(alloc, format, TableName::Interval, elements)
 }
 

@@ -12,15 +12,10 @@ ghost use Rattle.settings_sheet.specs.RelayStops.{AreNames, HasNoSpace, IsRelayS
 ghost use Rattle.settings_sheet.specs.SheetLines.{relay_words, settings_lines};
 
 use crate::refusal::{SheetKind, SheetRefusal, fault};
+use coord_model::limits::{GREATEST_DIAL, GREATEST_PLUG};
 use coord_model::{Choice, Relay, Study};
 use coord_text::{read_fixed, split_line};
 use std::alloc::Global;
-
-/// The largest plug, in hundredths of a secondary ampere.
-const MOST_PLUG: u64 = 10_000;
-
-/// The largest dial, in thousandths.
-const MOST_DIAL: u64 = 15_000;
 
 /// The settings on the lines of the relays, in study order, and what follows them.
 pub fn read_choice<'a>(
@@ -84,8 +79,8 @@ fn steps_on(line: &[u8], name: &[u8], relay: &Relay) -> Option<(u16, u16)>
     ensures no_such { IsNone result → (pickup dial : ℕ) → IsOnSteps relay.now pickup dial → line.now ≢ relay_words relay.now pickup dial }
 {
     let (plug, dial) = settings_on(line, name)?;
-    let plug = read_fixed(plug, 2, MOST_PLUG)?;
-    let dial = read_fixed(dial, 3, MOST_DIAL)?;
+    let plug = read_fixed(plug, 2, GREATEST_PLUG as u64)?;
+    let dial = read_fixed(dial, 3, GREATEST_DIAL as u64)?;
     let pickup = step_at(relay.plug_first, relay.plug_step, relay.plug_count, plug)?;
     let dial = step_at(relay.dial_first, relay.dial_step, relay.dial_count, dial)?;
     Some((pickup, dial))

@@ -8,6 +8,7 @@ use Rattle.coord_model.specs.Tree.{bound}
 use Rattle.margin_rows.specs.Box.{Box, FitsBox, HasNoEmptySpan}
 use Rattle.margin_rows.specs.Case.{Case, FitsCase, rows_in}
 use Rattle.margin_rows.specs.FirstBox.{IsInFirstBox}
+use Rattle.margin_rows.specs.Gap.{IsGapEnough}
 use Rattle.margin_rows.specs.Least.{IsStrictLeastOf}
 use Rattle.margin_rows.specs.Lowest.{HasOnePickup, lowest_of}
 use Rattle.margin_rows.specs.Margin.{MeetsStrictly}
@@ -16,7 +17,6 @@ use Rattle.margin_rows.proofs.Widths.{gap_covers}
 use Rattle.box_bound.specs.LowerBound.{IsPlainBound}
 use Rattle.box_bound.proofs.LowestBounds.{CostsMore, low_bound, lowest_fails}
 use Rattle.step_rules.specs.Handlings.{IsDivided, tree_of}
-use Rattle.step_rules.specs.Issuing.{IsGapOf}
 use Rattle.step_rules.specs.Offers.{PlainReaches, Reaches, offered}
 use Rattle.step_rules.specs.Premises.{Advised, ClosesBy, IsAsked, IsUndecided, IsVoidBy, TightensTo}
 use Rattle.step_rules.specs.Rules.{Handled, divided}
@@ -77,7 +77,7 @@ costs_more case gap plain (Some held) (Some offer) above = go (nat_lt (cost_of c
 
 -- then the lowest settings of the box do not strictly meet every row
 pub unmet_row : (case : Case) (gap plain : ℕ) (box : Box) (issued later offer : Option Settings) → FitsCase case → FitsBox case box → HasNoEmptySpan box → HasOnePickup box
-    → IsGapOf case gap → IsPlainBound case box plain → IsStrictLeastOf case (lowest_of box).pickup offer → later ≡ offered case issued offer → ¬ (Reaches case gap later plain)
+    → IsGapEnough case gap → IsPlainBound case box plain → IsStrictLeastOf case (lowest_of box).pickup offer → later ≡ offered case issued offer → ¬ (Reaches case gap later plain)
     → ¬ (All (MeetsStrictly case (lowest_of box)) (rows_in case))
 unmet_row case gap plain box issued later offer limits fits steps one wide is least now above =
     lowest_fails case box offer gap fits steps least covers (subst (λ (b : ℕ). CostsMore case (b + gap) offer) same (costs_more case gap plain issued offer more))

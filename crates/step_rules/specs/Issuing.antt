@@ -1,10 +1,9 @@
 -- Issued settings: with their cost, and those that a step leaves (ours).
-use Rattle.std.specs.Prelude.{◌≡◌, ℕ, ◌≤◌, Option, Some, None}
+use Rattle.std.specs.Prelude.{◌≡◌, ℕ, Option, Some, None}
 use Rattle.std.specs.Option.{option_map}
 use Rattle.coord_model.specs.Choice.{Settings, choice_data}
 use Rattle.margin_rows.specs.Case.{Case}
 use Rattle.margin_rows.specs.FirstBox.{IsInFirstBox}
-use Rattle.margin_rows.specs.Gap.{IsLeastGap}
 use Rattle.margin_rows.specs.Price.{cost_of}
 use Rattle.step_rules.specs.declared.issued.Issued.{Issued}
 
@@ -25,9 +24,3 @@ latest before (Some new) = Some (choice_data new.choice)
 -- the costs of the settings that are issued
 abbrev pub costs : Case → Option Settings → Option ℕ
 costs case issued = option_map (cost_of case) issued
-
--- the gap is at least the least gap of the case
-pub record IsGapOf (case : Case) (gap : ℕ) : Type 0 where
-  pub least : ℕ
-  pub exact : IsLeastGap case least
-  pub at_least : least ≤ gap

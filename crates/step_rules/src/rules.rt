@@ -3,9 +3,10 @@ ghost use Rattle.std.specs.Prelude.{◌≡◌, ◌↔◌, ℕ, Option, IfOk, IfS
 ghost use Rattle.std.specs.Option.{option_map};
 ghost use Rattle.coord_model.specs.Choice.{Settings};
 ghost use Rattle.margin_rows.specs.Box.{Box, FitsBox, HasNoEmptySpan};
+ghost use Rattle.margin_rows.specs.Gap.{IsGapEnough};
 ghost use Rattle.margin_rows.specs.Lowest.{HasOnePickup};
 ghost use Rattle.step_rules.specs.Handlings.{IsDivided, LeavesHalves, advised_of, tree_of};
-ghost use Rattle.step_rules.specs.Issuing.{IsGapOf, IsPriced, costs, latest, settings_of};
+ghost use Rattle.step_rules.specs.Issuing.{IsPriced, costs, latest, settings_of};
 ghost use Rattle.step_rules.specs.Offers.{PlainReaches};
 ghost use Rattle.step_rules.specs.OpenBoxes.{IsOpenBox, IsTightBox};
 ghost use Rattle.step_rules.specs.Premises.{ClosesBy, IsAsked, TightensTo};
@@ -41,7 +42,7 @@ pub fn handle<A: Adviser>(
 ) -> Result<(Handling, Option<Issued>), NoMemory>
     requires parent { IsOpenBox inst.now parent.now }
     requires issued { IfSome issued.now (IsPriced inst.now) }
-    requires gap { IsGapOf inst.now gap }
+    requires gap { IsGapEnough inst.now gap }
 
     // By the rules of a step.
     ensures handled { IfOk result (λ done. Handled inst.now gap parent.now.ranges (leaf_weights parent.now.weights) (settings_of issued.now) (latest issued.now done.1) (tree_of done.0)) }
@@ -76,7 +77,7 @@ fn handle_tight<A: Adviser>(
     requires tight { IsTightBox inst.now tight }
     requires tightens { TightensTo inst.now parent.now.ranges tight.ranges }
     requires issued { IfSome issued.now (IsPriced inst.now) }
-    requires gap { IsGapOf inst.now gap }
+    requires gap { IsGapEnough inst.now gap }
     ensures handled { IfOk result (λ done. Handled inst.now gap parent.now.ranges (leaf_weights parent.now.weights) (settings_of issued.now) (latest issued.now done.1) (tree_of done.0)) }
     ensures priced { IfOk result (λ done. IfSome done.1 (IsPriced inst.now)) }
     ensures halves { IfOk result (λ done. LeavesHalves inst.now parent.now done.0) }
@@ -105,7 +106,7 @@ fn settle(
     requires tight { IsTightBox inst.now tight.now }
     requires one { HasOnePickup tight.now.ranges }
     requires issued { IfSome issued.now (IsPriced inst.now) }
-    requires gap { IsGapOf inst.now gap }
+    requires gap { IsGapEnough inst.now gap }
     ensures handled { IfOk result (λ done. (box : Box) (own : LeafWeights) → TightensTo inst.now box tight.now.ranges
         → Handled inst.now gap box own (settings_of issued.now) (latest issued.now done.1) (tree_of done.0)) }
     ensures priced { IfOk result (λ done. IfSome done.1 (IsPriced inst.now)) }

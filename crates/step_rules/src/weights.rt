@@ -6,12 +6,10 @@ ghost use Rattle.step_rules.specs.Premises.{IsVoidBy};
 ghost use Rattle.step_rules.specs.Usable.{AreUsable, CanBound, HasBound, leaf_weights, plain_weights};
 
 use box_bound::{bound_of, value};
+use coord_model::limits::MOST_WEIGHTS;
 use coord_model::{NoMemory, Weight, Weights};
 use margin_rows::{Instance, Ranges};
 use std::alloc::Global;
-
-/// The most rows that have a weight.
-const MOST_ROWS: usize = 64;
 
 /// Lambda 1 and no rows: the weights of the plain bound.
 pub fn plain_weights(alloc: Global) -> Weights
@@ -38,7 +36,7 @@ pub fn copy(weights: &Weights) -> Result<Weights, NoMemory>
 pub fn are_usable(inst: &Instance, rows: &[Weight]) -> bool
     ensures { IsTrue result ↔ AreUsable inst.now rows.now }
 {
-    rows.len() <= MOST_ROWS && are_named(rows, inst.rows().len()) && are_rising(rows)
+    rows.len() <= MOST_WEIGHTS && are_named(rows, inst.rows().len()) && are_rising(rows)
 }
 
 /// Whether weights are of rows below a count, each from 1 to 2^32 - 1.

@@ -4,9 +4,9 @@ use mir.Syntax.{w64}
 use mir.Val.{SFits, to_z, of_z}
 use Rattle.std.proofs.Common.{◌≡◌, ◌↔◌, ◌*◌, ℕ, ◌∙◌, arith, rules}
 use Rattle.std.proofs.lemmas.Int.{ints, to_z-of_z}
+use Rattle.coord_model.specs.Dial.{dial_at_step}
 use Rattle.coord_model.specs.declared.study.Row.{Row}
 use Rattle.margin_rows.specs.Case.{Case, row_at}
-use Rattle.margin_rows.specs.Dial.{dial_at_step}
 use Rattle.margin_rows.specs.Margin.{margin_of}
 use Rattle.margin_rows.specs.Times.{time_at}
 use Rattle.margin_rows.proofs.Placed.{margin_sign}

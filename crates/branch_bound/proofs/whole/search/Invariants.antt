@@ -1,6 +1,6 @@
-use Rattle.std.proofs.Common.{◌≡◌, ◌-◌, ℕ}
+use Rattle.std.proofs.Common.{◌≡◌, ◌-◌}
 use Rattle.margin_rows.specs.Box.{Box, IsFirstBox}
-use Rattle.step_rules.specs.Issuing.{IsGapOf}
+use Rattle.margin_rows.specs.Gap.{IsGapEnough}
 use Rattle.branch_bound.specs.Machine.{Run, first_state}
 use Rattle.branch_bound.specs.Searching.{state_of}
 use Rattle.branch_bound.proofs.whole.search.Given as goal
@@ -10,7 +10,7 @@ invariant-loop-solver g l = record {
   same_case : l.solver.case ≡ l.inst;
   same_gap : l.solver.gap ≡ l.gap;
   same_budget : l.solver.budget ≡ l.budget;
-  covers : IsGapOf l.inst l.gap;
+  covers : IsGapEnough l.inst l.gap;
   run : (first : Box) → IsFirstBox l.solver.case first → Run l.solver.case first l.solver.gap l.solver.budget first_state (state_of l.solver);
 }
 

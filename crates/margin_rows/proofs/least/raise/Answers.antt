@@ -1,5 +1,5 @@
 use Rattle.std.proofs.Common.{◌+◌, ◌-◌, arith, ◌≡◌, ◌∙◌, ◌*◌, ◌<◌, ℕ, ap, get_or, set, subst}
-use Rattle.margin_rows.specs.Dial.{dial_at_step}
+use Rattle.coord_model.specs.Dial.{dial_at_step}
 use Rattle.margin_rows.proofs.Raising.{longer_is_higher}
 use Rattle.margin_rows.proofs.least.raise.Goals as goal
 

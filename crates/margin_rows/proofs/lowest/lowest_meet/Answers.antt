@@ -4,10 +4,10 @@ use mir.Syntax.{w64}
 use mir.Val.{SFits, of_z, to_z}
 use Rattle.std.proofs.Common.{◌≡◌, ◌↔◌, ◌*◌, ℕ, ◌∙◌, arith, rules, subst, sym}
 use Rattle.std.proofs.lemmas.Int.{ints, to_z-of_z}
+use Rattle.coord_model.specs.Dial.{dial_at_step}
 use Rattle.coord_model.specs.declared.study.Row.{Row}
 use Rattle.margin_rows.specs.Box.{Box, IsDialStep}
 use Rattle.margin_rows.specs.Case.{Case, row_at}
-use Rattle.margin_rows.specs.Dial.{dial_at_step}
 use Rattle.margin_rows.specs.FirstBox.{IsFirstStep}
 use Rattle.margin_rows.specs.Lowest.{lowest_of}
 use Rattle.margin_rows.specs.Margin.{MeetsStrictly, margin_of}

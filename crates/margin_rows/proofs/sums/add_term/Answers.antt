@@ -1,5 +1,6 @@
 use Rattle.std.proofs.Common.{◌+◌, ◌*◌, ◌<◌, ℕ, arith, ap, ◌∙◌, get_or, set, length}
 use Rattle.margin_rows.specs.FirstBox.{IsFirstSpan, IsFirstStep}
+use Rattle.margin_rows.proofs.Spanned.{first_step_small}
 use Rattle.margin_rows.proofs.Summed.{place_within, one_added, all_added}
 use Rattle.margin_rows.proofs.sums.add_term.Goals as goal
 use Rattle.margin_rows.proofs.sums.add_term.Goals.{After-place}
@@ -12,6 +13,12 @@ first c = (span c).inside c.loop-step.step c.loop-step.auto.step (omega (arith, 
 
 within : (c : After-place) → c.args.term.relay * 64 + c.loop-step.step < length c.loop-step.sums
 within c = place_within c.args.given.now c.args.term.relay c.loop-step.step (length c.loop-step.sums) c.requires.fits (first c) (c.loop-step.invariant.size ∙ c.requires.size)
+
+pub overflow_add-step-end : goal.overflow_add-step-end
+overflow_add-step-end c =
+    let span : IsFirstSpan c.args.given.now c.args.term.relay c.in-Some.low c.in-Some.high = rw c.in-Some.is at c.requires.span in
+    let last = span.inside c.in-Some.high span.ordered (omega arith) in
+    omega (arith, first_step_small c.args.given.now c.args.term.relay c.in-Some.high c.requires.fits last)
 
 pub bounds-sums-place : goal.bounds-sums-place
 bounds-sums-place c = omega (arith, c.place.ensures, within (goal.at.bounds-sums-place c).After-place)

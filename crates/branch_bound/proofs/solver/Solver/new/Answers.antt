@@ -1,10 +1,10 @@
 use Rattle.std.proofs.Common.{arith, refl}
-use Rattle.step_rules.specs.Issuing.{IsGapOf}
+use Rattle.margin_rows.specs.Gap.{IsGapEnough}
 use Rattle.branch_bound.proofs.Stepped.{start_is, start_state}
 use Rattle.branch_bound.proofs.solver.Solver.new.Goals as goal
 use Rattle.branch_bound.proofs.solver.Solver.new.Goals.{In_ok-tree}
 
-covers : (c : In_ok-tree) → IsGapOf c.args.inst.now c.args.gap
+covers : (c : In_ok-tree) → IsGapEnough c.args.inst.now c.args.gap
 covers c = record { least = c.least_gap-least.result; exact = c.least_gap-least.ensures.exact; at_least = omega (arith, c.if-gap-least.false) }
 
 pub invariant_of-result : goal.invariant_of-result

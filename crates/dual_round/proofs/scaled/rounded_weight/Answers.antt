@@ -1,7 +1,7 @@
 use Rattle.std.proofs.Common.{rules, ap, refl, to_z, of_z}
 use mir.Syntax.{w128}
 use Rattle.dual_round.proofs.Shifts.{weight_is}
-use Rattle.dual_round.proofs.scaled.weight_of.Goals as goal
+use Rattle.dual_round.proofs.scaled.rounded_weight.Goals as goal
 
 pub returns : goal.returns
 returns c =
