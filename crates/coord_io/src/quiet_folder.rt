@@ -79,9 +79,27 @@ impl QuietFolder {
 }
 
 impl Folder for QuietFolder {
+    ghost use Rattle.std.specs.Prelude.{ℕ, ◌≤◌, ◌++◌, List, [], length, IsOk, IsOkAnd, IsErrOf, IsSome};
+    ghost use Rattle.std.specs.Option.{ForSome};
+    ghost use Rattle.coord_io.specs.Files.{Files, HasFile, Becomes, Gains, ReadsAt};
+    ghost use Rattle.coord_io.specs.Goes.{Goes, Stays};
+    ghost use Rattle.coord_io.specs.Outside.{IsMissing};
+    ghost use Rattle.coord_io.specs.Quiet.{room_of};
+
     ghost state = { λ s. record { files = s.files; reads = 0; writes = 0 } };
 
-    fn read_at(&mut self, name: &str, place: u64, buf: &mut [u8]) -> Result<usize, ReadFail> {
+    fn read_at(&mut self, name: &str, place: u64, buf: &mut [u8]) -> Result<usize, ReadFail>
+        // A folder that tells goes on telling.
+        ensures same { self.new ≡ self.old }
+        ensures unchanged { Goes self.old.files self.new.files Stays }
+
+        ensures within { IfOk result (λ count. count ≤ length buf.old) }
+        ensures bytes { IfOk result (λ count. Goes self.old.files self.new.files (λ m _. ReadsAt name.now place buf.new count m)) }
+
+        ensures missing { IsErrOf result ReadFail.Missing → IsMissing name.now
+            (record { files = self.old.files; reads = 0; writes = 0 }) (record { files = self.new.files; reads = 0; writes = 0 }) }
+        ensures only_missing { ¬ (IsErrOf result ReadFail.Failed) }
+    {
         if !self.tells {
             return Ok(0);
         }
@@ -91,12 +109,29 @@ impl Folder for QuietFolder {
         Ok(copy_from(bytes, place, buf))
     }
 
-    fn start(&mut self, name: &str) -> Result<(), Failed> {
+    fn start(&mut self, name: &str) -> Result<(), Failed>
+        ensures exact { self.new ≡ record { files = option_and_then (emptied name.now) self.old.files; rooms = self.old.rooms } }
+        ensures never_fails { IsOk result }
+
+        // A folder that tells goes on telling, if it has the file.
+        ensures tells { (m : Files) → self.old.files ≡ Some m → HasFile m name.now → IsSome self.new.files }
+        ensures started { Goes self.old.files self.new.files (Becomes name.now []) }
+    {
         self.empty(name);
         Ok(())
     }
 
-    fn append(&mut self, name: &str, piece: &[u8]) -> Result<usize, Failed> {
+    fn append(&mut self, name: &str, piece: &[u8]) -> Result<usize, Failed>
+        requires { ForSome self.old.files (λ m. HasFile m name.now) }
+
+        ensures exact { self.new ≡ record { files = option_and_then (grown self.old.rooms name.now piece.now) self.old.files; rooms = self.old.rooms } }
+        ensures whole { IsOkAnd result (λ count. count ≡ length piece.now) }
+
+        // A folder that tells goes on telling, if the file has room for the piece.
+        ensures tells { (had : List ℕ) → option_and_then (λ m. held m name.now) self.old.files ≡ Some had
+            → length (had ++ piece.now) ≤ room_of self.old.rooms name.now → IsSome self.new.files }
+        ensures added { Goes self.old.files self.new.files (Gains name.now piece.now) }
+    {
         self.add(name, piece);
         Ok(piece.len())
     }

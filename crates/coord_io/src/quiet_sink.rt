@@ -64,9 +64,20 @@ impl QuietSink {
 }
 
 impl Sink for QuietSink {
+    ghost use Rattle.std.specs.Prelude.{ℕ, ◌≤◌, List, length, IsOkAnd, IsSome};
+    ghost use Rattle.coord_io.specs.Goes.{Goes};
+    ghost use Rattle.coord_io.specs.Written.{Gained};
+
     ghost state = { λ s. record { written = s.written; faults = 0 } };
 
-    fn write(&mut self, piece: &[u8]) -> Result<usize, Failed> {
+    fn write(&mut self, piece: &[u8]) -> Result<usize, Failed>
+        ensures exact { self.new ≡ record { written = option_and_then (λ had. within self.old.room (had ++ piece.now)) self.old.written; room = self.old.room } }
+        ensures whole { IsOkAnd result (λ count. count ≡ length piece.now) }
+
+        // A sink that tells goes on telling, if it has room for the piece.
+        ensures tells { (had : List ℕ) → self.old.written ≡ Some had → length (had ++ piece.now) ≤ self.old.room → IsSome self.new.written }
+        ensures added { Goes self.old.written self.new.written (Gained piece.now) }
+    {
         self.take(piece);
         Ok(piece.len())
     }

@@ -1,7 +1,6 @@
 use Rattle.std.proofs.Common.{ap}
-use Rattle.std.proofs.Math.Seq.{take-length}
 use Rattle.coord_io.proofs.QuietGoings.{grown_gains}
 use Rattle.coord_io.proofs.quiet_folder.QuietFolderFolder.append.Goals as goal
 
 pub returns-clause-added : goal.returns-clause-added
-returns-clause-added c = rw take-length (grown_gains _ _ _ _ _ (ap (λ s. s.files) c.add.ensures))
+returns-clause-added c = grown_gains _ _ _ _ _ (ap (λ s. s.files) c.add.ensures)
