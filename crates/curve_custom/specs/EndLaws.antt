@@ -1,15 +1,15 @@
 -- That the ends as functions are the best ends, and grow with the power.
-use Rattle.std.proofs.Common.{ℕ, ◌+◌, ◌-◌, ◌*◌, ◌≤◌, ◌≡◌, Bool, nat_le, arith, subst}
+use Rattle.std.proofs.Common.{ℕ, ◌+◌, ◌-◌, ◌*◌, ◌≤◌, ◌≡◌, Bool, nat_le, arith, inl, inr, subst}
 use Rattle.std.proofs.Math.Nat.{le_antisymm}
 use Rattle.std.proofs.lemmas.Bool.{leb-true, le-leb}
 use Rattle.coord_model.proofs.CustomRoots.{IsRootOf, ends_are, high_power-within, low_power-above, one_is_at_most}
-use Rattle.coord_model.specs.CustomForm.{IsInRange}
+use Rattle.coord_model.specs.CustomForm.{IsExponent, IsInRange}
 use Rattle.coord_model.specs.CustomRoot.{IsAtLeastRoot, IsAtMostRoot, IsHighEnd, IsLowEnd, high_power, last, low_power, one, power_down, power_up}
 use Rattle.coord_model.specs.Enclosure.{IsEnclosable}
 use Rattle.coord_model.specs.Time.{Multiple}
 use Rattle.coord_model.specs.declared.curve.CurveForm.{CurveForm}
 use Rattle.root_interval.proofs.RootEnds.{is_greatest}
-use Rattle.curve_custom.specs.Ends.{high_end, low_end}
+use Rattle.curve_custom.specs.Ends.{RootsAreBest, high_end, low_end}
 
 -- ---- the low end as a function
 
@@ -89,3 +89,16 @@ is_root form m range root exponent is =
     ends_are form m _ _ range root exponent is
     (is_low_end form.h (low_power form m) (omega (arith, low_power-above form m range is)))
     (is_high_end form.h (high_power form m) (high_power-within form m range root exponent is))
+
+-- the exponent of a root is at most 3/2
+root_exponent : (form : CurveForm) → IsExponent form → 2 ≤ form.h → 2 * form.e ≤ 3 * form.h
+root_exponent form exponent root = elim exponent [ inl whole ↦ absurd (omega (arith, whole.0, root)) | inr broken ↦ broken.1 ]
+
+pub roots_best : RootsAreBest
+roots_best form m range exponent root is =
+    let low_exponent = root_exponent form exponent root in
+    record {
+      low = is_low_end form.h (low_power form m) (omega (arith, low_power-above form m range is));
+      high = is_high_end form.h (high_power form m) (high_power-within form m range root low_exponent is);
+      near = (is_root form m range root low_exponent is).near;
+    }

@@ -9,3 +9,4 @@ mod power;
 mod root;
 
 pub use curve::CustomCurve;
+pub use root::roots_are_best;

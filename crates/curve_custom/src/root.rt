@@ -4,7 +4,7 @@ ghost use Rattle.coord_model.specs.CustomForm.{IsInRange};
 ghost use Rattle.coord_model.specs.CustomRoot.{high_power, last, low_power, one, power_down, IsHighEnd, IsLowEnd};
 ghost use Rattle.coord_model.specs.Enclosure.{IsEnclosable};
 ghost use Rattle.coord_model.specs.Time.{Multiple};
-ghost use Rattle.curve_custom.specs.Ends.{high_end, low_end};
+ghost use Rattle.curve_custom.specs.Ends.{RootsAreBest, high_end, low_end};
 
 use crate::power::{LAST, ONE, power_down, power_down_is_at_least, power_up, power_up_is_at_most};
 use coord_model::CurveForm;
@@ -27,6 +27,11 @@ pub fn root_ends(form: CurveForm, num: u64, den: u64) -> (u128, u128)
     let high = high_end(form.h, high_power(form, num, den));
     (low, high)
 }
+
+/// The ends of each root are the best that its powers show, and at most 2^8 apart.
+pub fn roots_are_best()
+    ensures { RootsAreBest }
+{}
 
 /// The power M^e of the multiple M = `num/den`, rounded down at each step.
 fn low_power(form: CurveForm, num: u64, den: u64) -> u128
