@@ -13,7 +13,7 @@ ghost use Rattle.cert_text.specs.declared.kinds.CertKind.TheVariants as kind;
 
 use crate::kinds::{CertHead, CertKind};
 use crate::numbers::{cut_number, last_count, last_number};
-use coord_model::limits::{GREATEST_BUDGET, GREATEST_GAP, MOST_RELAYS, MOST_ROWS};
+use coord_model::limits::{GREATEST_BUDGET, GREATEST_GAP, LAST_FORMAT, MOST_RELAYS, MOST_ROWS};
 use coord_model::{Ending, StudyHead};
 use coord_text::{bound_goes_with, cost_goes_with, read_amount, read_ending};
 
@@ -93,7 +93,7 @@ fn read_study(line: &[u8]) -> Option<StudyHead>
     ensures said { IfSome result (λ study. line.now ≡ study_line study) }
     ensures no_such { IsNone result → (study : StudyHead) → IsStudyHead study → line.now ≢ study_line study }
 {
-    let (format, rest) = cut_number(line, b"study ", 4)?;
+    let (format, rest) = cut_number(line, b"study ", LAST_FORMAT as u64)?;
     let (relays, rest) = cut_number(rest, b" ", MOST_RELAYS as u64)?;
     let rows = last_number(rest, b" ", MOST_ROWS as u64)?;
     if format == 0 {

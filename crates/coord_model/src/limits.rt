@@ -1,5 +1,7 @@
 //! The limits of what Coord reads, keeps and writes, which the crates above cite. The clauses of their calls and `specs/` have the figures.
 
+/// The last format of a network file. They count from 1.
+pub const LAST_FORMAT: u32 = 4;
 /// The greatest coordination interval, in milliseconds.
 pub const GREATEST_INTERVAL: u32 = 10_000;
 /// The least sensing factor, in hundredths.
@@ -54,6 +56,15 @@ pub const GREATEST_LEAST_MS: u32 = 100_000;
 pub const GREATEST_MOST_MS: u32 = 20_000_000;
 /// The greatest weight of a fault.
 pub const GREATEST_FAULT_WEIGHT: u32 = 1_000;
+
+/// The greatest k of a custom curve, in ten-thousandths of a second.
+pub const GREATEST_CUSTOM_K: u32 = 10_000_000;
+/// The greatest c of a custom curve, in ten-thousandths of a second.
+pub const GREATEST_CUSTOM_C: u32 = 1_000_000;
+/// The greatest j of a custom curve, whose exponent is j/h.
+pub const GREATEST_CUSTOM_J: u32 = 4;
+/// The greatest h of a custom curve, whose exponent is j/h.
+pub const GREATEST_CUSTOM_H: u32 = 100;
 
 /// The most splits on a path of a tree.
 pub const MOST_SPLITS: u16 = 3_072;

@@ -7,6 +7,9 @@ ghost use Rattle.curve_custom.specs.Ends.{custom_enclosure};
 
 use crate::power::ONE;
 use crate::root::root_ends;
+use coord_model::limits::{
+    GREATEST_CUSTOM_C, GREATEST_CUSTOM_H, GREATEST_CUSTOM_J, GREATEST_CUSTOM_K,
+};
 use coord_model::{Curve, CurveForm, ends_between};
 use std::marker::Model;
 
@@ -57,10 +60,10 @@ impl CustomCurve {
 fn is_in_range(form: CurveForm) -> bool
     ensures { IsTrue result ↔ IsInRange form }
 {
-    (1..=10_000_000).contains(&form.k4)
-        && form.c4 <= 1_000_000
-        && (1..=4).contains(&form.e)
-        && (1..=100).contains(&form.h)
+    (1..=GREATEST_CUSTOM_K).contains(&form.k4)
+        && form.c4 <= GREATEST_CUSTOM_C
+        && (1..=GREATEST_CUSTOM_J).contains(&form.e)
+        && (1..=GREATEST_CUSTOM_H).contains(&form.h)
 }
 
 /// Whether the exponent is 1, 2 or 3, or a fraction of at most 3/2.

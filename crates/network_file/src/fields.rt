@@ -13,6 +13,9 @@ ghost use Rattle.toml.specs.View.{view, table_view};
 
 use crate::fault::{NetFault, Place};
 use crate::words::{curve_named, has_key, word};
+use coord_model::limits::{
+    GREATEST_CUSTOM_C, GREATEST_CUSTOM_H, GREATEST_CUSTOM_J, GREATEST_CUSTOM_K,
+};
 use coord_model::{CurveName, Key, Name, NetKind};
 use toml::{Table, Value};
 
@@ -120,10 +123,10 @@ impl<'a> Fields<'a> {
         ensures keeps { IfOk result KeepsCurve }
     {
         Ok(CurveName::Custom {
-            k4: self.number(Key::CustomK, 1, 10_000_000)?,
-            c4: self.number(Key::CustomC, 0, 1_000_000)?,
-            e: self.number(Key::CustomJ, 1, 4)?,
-            h: self.number(Key::CustomH, 1, 100)?,
+            k4: self.number(Key::CustomK, 1, GREATEST_CUSTOM_K)?,
+            c4: self.number(Key::CustomC, 0, GREATEST_CUSTOM_C)?,
+            e: self.number(Key::CustomJ, 1, GREATEST_CUSTOM_J)?,
+            h: self.number(Key::CustomH, 1, GREATEST_CUSTOM_H)?,
         })
     }
 

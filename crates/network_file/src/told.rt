@@ -13,7 +13,9 @@ use crate::entries::{
 };
 use crate::fault::{NetFault, Place};
 use crate::fields::{Fields, member};
-use coord_model::limits::{MOST_EXEMPT, MOST_FAULTS, MOST_INTERVALS, MOST_LINES, MOST_RELAYS};
+use coord_model::limits::{
+    LAST_FORMAT, MOST_EXEMPT, MOST_FAULTS, MOST_INTERVALS, MOST_LINES, MOST_RELAYS,
+};
 use coord_model::{Key, NetKind, TableName, What};
 use std::alloc::Global;
 use toml::{Table, Value};
@@ -53,7 +55,7 @@ pub(crate) fn told_in(alloc: Global, document: &Table) -> Result<Told, NetFault>
         table: document,
         place: TOP,
     };
-    let format = top.number(Key::Format, 1, 4)?;
+    let format = top.number(Key::Format, 1, LAST_FORMAT)?;
     top.only(
         format,
         &[
