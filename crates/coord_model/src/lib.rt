@@ -14,8 +14,6 @@ mod memory;
 mod name;
 mod order;
 mod study;
-#[cfg(test)]
-mod tests;
 mod tree;
 mod weights;
 

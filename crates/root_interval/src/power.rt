@@ -36,15 +36,3 @@ pub fn pow50_up(r: u128) -> u128
     let r48 = mul_up(r32, r16);
     mul_up(r48, r2)
 }
-
-#[cfg(test)]
-mod tests {
-    use super::*;
-    use crate::product::ONE;
-
-    #[test]
-    fn every_power_of_one_is_one(rt: HostRuntime) {
-        assert_eq!(rt; pow50_down(ONE), ONE);
-        assert_eq!(rt; pow50_up(ONE), ONE);
-    }
-}
