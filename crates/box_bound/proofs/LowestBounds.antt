@@ -126,4 +126,4 @@ lowest_fails case box issued gap fits steps least covers more met =
         → IsStrict case (lowest_of box).pickup (lowest_of box) → ⊥
     go None none more low inside strict = none (lowest_of box) strict
     go (Some settings) is more low inside strict =
-        omega (arith, more, covers (lowest_of box) inside, costs_rise case settings (lowest_of box) is.strict.same_pickups (is.least (lowest_of box) strict))
+        omega (arith, more, covers (lowest_of box) inside, costs_rise case settings (lowest_of box) is.meet.same_pickups (is.least (lowest_of box) strict))

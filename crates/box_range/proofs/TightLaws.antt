@@ -90,6 +90,6 @@ module _ (case : Case) (box : Box) (fits : FitsBox case box) (tight : IsTight ca
   -- and in a whole box the strict-least of their pickups
   pub lowest_is_least : FitsCase case → IsWhole case box → All (MeetsStrictly case (lowest_of box)) (rows_in case) → IsStrictLeast case (lowest_of box).pickup (lowest_of box)
   lowest_is_least limits whole met = record {
-    strict = lowest_strict met;
+    meet = lowest_strict met;
     least = λ other strict. none_below box other (strict_lies other limits whole strict);
   }

@@ -56,7 +56,7 @@ module _ (case : Case) (gap : ℕ) (issued : Option Settings) (settings : Settin
       → IfSome offer (λ least. IsSomeAnd issued (λ held. cost_of case held ≤ cost_of case least)) → IsNear
   covered pickups None same least less = absurd (least settings (record { same_pickups = same; on_steps = inside.on_steps; met = met }))
   covered pickups (Some offer) same least less =
-      let under = costs_rise case offer settings (least.strict.same_pickups ∙ sym same) (least.least settings (record { same_pickups = same; on_steps = inside.on_steps; met = met })) in
+      let under = costs_rise case offer settings (least.meet.same_pickups ∙ sym same) (least.least settings (record { same_pickups = same; on_steps = inside.on_steps; met = met })) in
       go issued less under
     where
       go : (o : Option Settings) → IsSomeAnd o (λ held. cost_of case held ≤ cost_of case offer) → cost_of case offer ≤ cost_of case settings → IsSomeAnd o (λ held. cost_of case held ≤ cost_of case settings + gap)

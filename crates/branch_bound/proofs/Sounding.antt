@@ -71,7 +71,7 @@ IsOwnLeast case issued = IfSome issued (λ held. IsStrictLeast case held.pickup 
 
 own_least : (case : Case) (pickups : List ℕ) (offer : Option Settings) → IsStrictLeastOf case pickups offer → IsOwnLeast case offer
 own_least case pickups None is = tt
-own_least case pickups (Some offer) is = subst (λ (ps : List ℕ). IsStrictLeast case ps offer) (sym is.strict.same_pickups) is
+own_least case pickups (Some offer) is = subst (λ (ps : List ℕ). IsStrictLeast case ps offer) (sym is.meet.same_pickups) is
 
 advised_least : (case : Case) (box : Box) (pickups : List ℕ) (offer : Option Settings) → IsAdvisedOffer case box pickups offer → IsOwnLeast case offer
 advised_least case box pickups None is = tt

@@ -141,7 +141,7 @@ module _ (case : Case) (asked : SolveWords) (outcome : Outcome) (allowed : IsAsk
           let here = subst (λ o. IfSome o (IsInFirstBox case)) (sym same) first in
           let strict = subst (λ o. IfSome o (λ s. IsStrictLeast case s.pickup s)) (sym same) least in
           let costs : cost ≡ Some (cost_of case (choice_data choice)) = is ∙ ap (option_map (cost_of case)) (sym same) in
-          subst (λ c. IfPrinted (Some (choice_data choice)) c (IsPriced case)) (sym costs) (record { inside = here; meets = strict.strict.met; costs = refl })
+          subst (λ c. IfPrinted (Some (choice_data choice)) c (IsPriced case)) (sym costs) (record { inside = here; meets = strict.meet.met; costs = refl })
 
   -- and is right
   pub cert_right : IsRight case (cert_of case outcome)

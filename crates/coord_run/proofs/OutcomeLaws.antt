@@ -52,7 +52,7 @@ module _ (case : Case) (asked : SolveWords) (outcome : Outcome) (comes : ComesTo
   allowed = go outcome.issued comes.reached.state.issued is.issued is.first_box is.sound.least
     where
       one : (settings : Settings) → IsInFirstBox case settings → IsStrictLeast case settings.pickup settings → IsAllowed case.study case.currents settings
-      one settings first least = strict_allowed case settings comes.fits first least.strict.met
+      one settings first least = strict_allowed case settings comes.fits first least.meet.met
 
       go : (issued : Option Choice) (held : Option Settings) → option_map choice_data issued ≡ held → IfSome held (IsInFirstBox case) → IfSome held (λ s. IsStrictLeast case s.pickup s)
           → IfSome issued (λ choice. IsAllowed case.study case.currents (choice_data choice))

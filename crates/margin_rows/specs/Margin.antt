@@ -10,6 +10,8 @@ use Rattle.margin_rows.specs.Case.{Case}
 use Rattle.margin_rows.specs.Demands.{slow_part, fast_part, asked_ps, granted_ps}
 use Rattle.margin_rows.specs.Times.{time_at, width_at}
 use Rattle.margin_rows.specs.declared.ends.Ends.{Ends}
+use Rattle.margin_rows.specs.declared.ends.Meeting.{Meeting}
+use Rattle.margin_rows.specs.declared.ends.Meeting.TheVariants.{Strict, Loose}
 
 -- the enclosure of a relay's time at a fault and dial 1, with its pickup of the settings
 abbrev pub time_of : Case → Settings → ℕ → ℕ → Enclosure
@@ -63,3 +65,8 @@ MeetsLoosely case settings row =
 abbrev pub MeetsStrictly : Case → Settings → Row → Type 0
 MeetsStrictly case settings row =
     Meets case.study row (least_ps case settings row.fault row.backup) (greatest_ps case settings row.fault row.primary)
+
+-- the settings meet the row strictly, or loosely
+abbrev pub MeetsAs : Meeting → Case → Settings → Row → Type 0
+MeetsAs Strict = MeetsStrictly
+MeetsAs Loose = MeetsLoosely

@@ -34,7 +34,7 @@ pub use ends::Ends;
 pub use fault::BuildFault;
 pub use gap::least_gap;
 pub use instance::{Instance, build};
-pub use least::strict_least;
+pub use least::{loose_least, loose_step, strict_least};
 pub use lowest::lowest_meet;
 pub use margin::{loose_row, row_margin, strict_row};
 pub use price::{cost, lower_cost};
