@@ -58,7 +58,6 @@ impl Given {
         ensures study { FitsStudy self.now.study }
         ensures currents { FitsCurrents self.now.study self.now.currents }
     {
-        let _table = &self.amps;
         &self.study
     }
 
