@@ -38,6 +38,3 @@ pub use refusals::{Failed, ReadFail, ReadRefusal};
 pub use sink::Sink;
 pub use std_sink::StdSink;
 pub use write::{append_whole, put_whole, write_whole};
-
-#[cfg(test)]
-mod tests;

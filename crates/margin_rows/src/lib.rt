@@ -41,6 +41,3 @@ pub use price::{cost, lower_cost};
 pub use ranges::Ranges;
 pub use span::Span;
 pub use unmet::{first_outside, first_unmet, strict_ok};
-
-#[cfg(test)]
-mod tests;

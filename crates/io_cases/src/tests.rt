@@ -1,5 +1,9 @@
 //! What no clause says: that calls succeed, which planned call fails, and that a real file is read as written.
-use super::*;
+use coord_io::{
+    CallKind, DiskFolder, Fail, Folder, MemFile, MemFolder, MemSink, QuietFile, QuietFolder,
+    QuietSink, ReadFail, ReadRefusal, Sink, append_whole, are_quiet, names_differ, put_whole,
+    read_whole, write_whole,
+};
 use coord_model::Name;
 use std::os::unix::fs::symlink;
 use std::process::Abort;
@@ -127,7 +131,7 @@ fn quiet_folder(rt: &(impl Abort + AllocGlobal)) -> Result<QuietFolder, test::Fa
 }
 
 #[test]
-#[tactic(auto, using(crate::proofs::Changes::started_there))]
+#[tactic(auto, using(coord_io::proofs::Changes::started_there))]
 fn a_quiet_folder_tells_what_is_within_its_rooms(rt: HostRuntime) -> Result<(), test::Fail> {
     let mut folder = quiet_folder(&rt)?;
     let mut buf = [0; 4];

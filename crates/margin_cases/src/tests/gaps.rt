@@ -1,9 +1,8 @@
 //! Least gaps that are worked out by hand: the weighted widths in picoseconds are far below a microsecond, which is
 //! rounded up.
 use super::studies::{one_fault, one_line, two_lines};
-use crate::fault::BuildFault;
-use crate::least_gap;
 use coord_model::CurveName;
+use margin_rows::{BuildFault, least_gap};
 
 // 13.5/9 and 13.5/18 s are whole nanoseconds.
 #[test]

@@ -1,7 +1,6 @@
 //! Weighted times that are summed by hand.
 use super::studies::two_faults;
-use crate::Instance;
-use crate::fault::BuildFault;
+use margin_rows::{BuildFault, Instance};
 
 // 2 * 13.5/9 + 3 * 13.5/7 s at pickup 100 A, each time cut to whole nanoseconds, and 2 * 13.5/4 + 3 * 13.5/3 s at 200 A.
 #[test]

@@ -4,11 +4,10 @@ ghost use Rattle.coord_model.specs.Limits.{FitsStudy};
 ghost use Rattle.coord_model.specs.PartLimits.{FitsCurve, IsBetween};
 ghost use Rattle.coord_model.specs.StudyData.{study_data, entries_of};
 
-use crate::fault::BuildFault;
-use crate::{Instance, build};
 use coord_model::{
     Current, Currents, CurveName, Fault, Line, Name, NoMemory, PairInterval, Relay, Study,
 };
+use margin_rows::{BuildFault, Instance, build};
 use std::alloc::Global;
 
 fn name() -> Name {

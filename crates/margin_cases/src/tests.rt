@@ -4,9 +4,10 @@ ghost use Rattle.coord_model.specs.Choice.{choice_data};
 ghost use Rattle.coord_model.specs.PartLimits.{FitsCurve};
 ghost use Rattle.margin_rows.specs.FirstBox.{IsInFirstBox};
 
-use crate::fault::BuildFault;
-use crate::{Instance, Ranges, cost, loose_row, lower_cost, strict_ok, strict_row};
 use coord_model::{Choice, CurveName, NoMemory, Row, RowKind, Term};
+use margin_rows::{
+    BuildFault, Instance, Ranges, cost, loose_row, lower_cost, strict_ok, strict_row,
+};
 use std::alloc::Global;
 
 mod boxes;
@@ -166,6 +167,7 @@ fn seen_at(alloc: Global, inst: &Instance, step: u16, row: u16) -> Result<Option
 }
 
 /// The choice of the lowest steps of the first box. `None`: a span of it is empty.
+#[tactic(auto, using(margin_rows::proofs::Inside::box_lies_first))]
 fn lowest(alloc: Global, inst: &Instance) -> Result<Option<Choice>, NoMemory>
     ensures { IfOk result (λ found. IfSome found (λ choice. IsInFirstBox inst.now (choice_data choice))) }
 {

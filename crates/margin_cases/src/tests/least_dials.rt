@@ -1,9 +1,10 @@
-//! The strict-least dials of studies that are worked out by hand.
+//! The strict-least and the loosely least dials of studies that are worked out by hand.
 use super::lowest;
 use super::studies::{one_fault, two_lines, two_lines_limited};
-use crate::fault::BuildFault;
-use crate::{Instance, dial_at, strict_least, strict_row};
 use coord_model::{NoMemory, Row, RowKind};
+use margin_rows::{
+    BuildFault, Instance, dial_at, loose_least, loose_step, strict_least, strict_row,
+};
 use std::alloc::Global;
 
 // 0.250 * 1.5 - 0.050 * 1.5 is 0.300 s, exactly the interval; with dials up to 0.200 the row can't be met.
@@ -22,6 +23,26 @@ fn a_row_met_by_a_hair_asks_for_the_next_dial(rt: HostRuntime) -> Result<(), Bui
     let alloc = rt.alloc();
     assert!(rt; least_dials(alloc, &one_fault(alloc, 2, 0)?)? == None);
     assert!(rt; least_dials(alloc, &one_fault(alloc, 3, 0)?)? == Some((2, 0)));
+    Ok(())
+}
+
+// The same row is loosely met at 0.280, and beside 0.280 at 0.420, which two dials lack.
+#[test]
+fn a_row_met_by_a_hair_is_loosely_met(rt: HostRuntime) -> Result<(), BuildFault> {
+    let alloc = rt.alloc();
+    let inst = one_fault(alloc, 2, 0)?;
+    assert!(rt; loose_dials(alloc, &inst)? == Some((1, 0)));
+    assert!(rt; loose_steps(alloc, &inst)? == Some((Some(1), None)));
+    assert!(rt; loose_steps(alloc, &one_fault(alloc, 3, 0)?)? == Some((Some(1), Some(2))));
+    Ok(())
+}
+
+// With dials up to 0.200 the row is 75 ms short.
+#[test]
+fn no_dials_meet_a_row_that_is_short_of_time(rt: HostRuntime) -> Result<(), BuildFault> {
+    let alloc = rt.alloc();
+    assert!(rt; loose_dials(alloc, &two_lines(alloc, 5)?)? == Some((4, 0)));
+    assert!(rt; loose_dials(alloc, &two_lines(alloc, 4)?)? == None);
     Ok(())
 }
 
@@ -105,8 +126,44 @@ fn least_dials(alloc: Global, inst: &Instance) -> Result<Option<(u16, u16)>, NoM
     let Some(choice) = strict_least(alloc, inst, lowest.pickup.as_slice())? else {
         return Ok(None);
     };
-    match choice.dial.as_slice() {
-        [first, second] => Ok(Some((*first, *second))),
-        _ => Ok(None),
+    Ok(first_two(choice.dial.as_slice()))
+}
+
+/// The same in the choice of the loosely least dials.
+fn loose_dials(alloc: Global, inst: &Instance) -> Result<Option<(u16, u16)>, NoMemory> {
+    let Some(lowest) = lowest(alloc, inst)? else {
+        return Ok(None);
+    };
+    let Some(choice) = loose_least(alloc, inst, lowest.pickup.as_slice())? else {
+        return Ok(None);
+    };
+    Ok(first_two(choice.dial.as_slice()))
+}
+
+fn first_two(dials: &[u16]) -> Option<(u16, u16)> {
+    match dials {
+        [first, second] => Some((*first, *second)),
+        _ => None,
     }
+}
+
+/// The least dial steps that loosely meet row 0 with the lowest pickups, beside the primary's first and second dial.
+fn loose_steps(
+    alloc: Global,
+    inst: &Instance,
+) -> Result<Option<(Option<u16>, Option<u16>)>, NoMemory> {
+    let Some(lowest) = lowest(alloc, inst)? else {
+        return Ok(None);
+    };
+    if inst.rows().is_empty() {
+        return Ok(None);
+    }
+    let primary = usize::from(inst.row(0).primary);
+    if inst.study().relays[primary].dial_count < 2 {
+        return Ok(None);
+    }
+    let pickups = lowest.pickup.as_slice();
+    let beside_first = loose_step(inst, pickups, 0, 0);
+    let beside_second = loose_step(inst, pickups, 0, 1);
+    Ok(Some((beside_first, beside_second)))
 }

@@ -3,9 +3,8 @@ ghost use Rattle.margin_rows.specs.Box.{FitsBox};
 ghost use Rattle.std.specs.Prelude.{IfOk, IfSome};
 
 use super::studies::one_line;
-use crate::fault::BuildFault;
-use crate::{Instance, Ranges};
 use coord_model::{CurveName, NoMemory};
+use margin_rows::{BuildFault, Instance, Ranges};
 
 #[test]
 fn a_box_is_split_between_two_pickups(rt: HostRuntime) -> Result<(), BuildFault> {
@@ -31,19 +30,6 @@ fn a_box_is_cut_into_another(rt: HostRuntime) -> Result<(), BuildFault> {
     assert!(rt; cut(&inst, &mut low, &mut high));
     assert!(rt; spans(&inst, &low) == Some(((0, 0), (0, 0))));
     assert!(rt; spans(&inst, &high) == Some(((1, 1), (0, 0))));
-    Ok(())
-}
-
-#[test]
-fn a_copy_is_narrowed_alone(rt: HostRuntime) -> Result<(), BuildFault> {
-    let inst = one_line(rt.alloc(), CurveName::IecB, 100, 0, 1_000)?;
-    let first = Ranges::first(rt.alloc(), &inst)?;
-    let lowest = first.lowest()?;
-    let mut other = first.copy()?;
-    narrow(&inst, &mut other);
-    assert!(rt; spans(&inst, &first) == Some(((0, 1), (0, 0))));
-    assert!(rt; first.holds(&lowest) && !other.holds(&lowest));
-    assert!(rt; other.has_empty_span() && !first.has_empty_span());
     Ok(())
 }
 
@@ -82,14 +68,4 @@ fn cut(inst: &Instance, low: &mut Ranges, high: &mut Ranges) -> bool
     }
     low.cut(0, 0, high);
     true
-}
-
-/// Leaves relay 0 no dial, if there is a relay.
-fn narrow(inst: &Instance, ranges: &mut Ranges)
-    requires { FitsBox inst.now ranges.old }
-{
-    if inst.study().relays.is_empty() {
-        return;
-    }
-    ranges.set_dial(0, 0, 0);
 }

@@ -1,0 +1,6 @@
+//! Folders and sinks that are read and written: the tests of `coord_io`, in a crate of their own, so that they are proved over its
+//! clauses and not together with it. No program uses them.
+#![tactic(auto)]
+
+#[cfg(test)]
+mod tests;

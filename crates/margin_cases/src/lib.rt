@@ -1,0 +1,6 @@
+//! Margins, costs, least dials and boxes that are worked out by hand: the tests of `margin_rows`, in a crate of their own, so
+//! that they are proved over its clauses and not together with it. No program uses them.
+#![tactic(auto)]
+
+#[cfg(test)]
+mod tests;
