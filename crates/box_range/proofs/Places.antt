@@ -1,7 +1,7 @@
 -- The two relays of a row.
 use Rattle.std.specs.List.{Contains}
 use Rattle.std.proofs.Common.{◌≡◌, ℕ, ◌<◌, ◌⊎◌, inl, inr, length, arith, sym, subst}
-use Rattle.std.proofs.lemmas.Option.{get_or_from_slice_get, slice_get_within}
+use Rattle.std.proofs.lemmas.Option.{get_or_from_slice_get}
 use Rattle.coord_model.specs.declared.study.Row.{Row}
 use Rattle.coord_model.specs.declared.study.RowKind.{RowKind}
 use Rattle.coord_model.specs.declared.study.RowKind.TheVariants.{Interval}
@@ -22,9 +22,6 @@ listed case number row has = found_listed (rows_in case) number row has
 -- the row with a number
 pub row_is : (case : Case) (number : ℕ) (row : Row) → HasRow case number row → row_at case number ≡ row
 row_is case number row has = get_or_from_slice_get (rows_in case) number row (record { kind = Interval; fault = 0; backup = 0; primary = 0 }) has
-
-pub number_below : (case : Case) (number : ℕ) (row : Row) → HasRow case number row → number < length (rows_in case)
-number_below case number row has = slice_get_within (rows_in case) number row has
 
 -- a row asks something of its backup, or else of its primary, which is the same relay
 pub asks_backup : (case : Case) (row : Row) → Contains (rows_in case) row → Asks row.kind Backup ⊎ (Asks row.kind Primary × (row.backup ≡ row.primary))

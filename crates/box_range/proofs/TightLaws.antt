@@ -1,28 +1,26 @@
 -- The lowest settings of a tight box with one pickup step for each relay.
 use Rattle.std.specs.Prelude.{slice_index}
 use Rattle.std.specs.List.{All, Contains}
-use Rattle.std.proofs.Common.{◌≡◌, ℕ, ◌+◌, ◌≤◌, ◌⊎◌, List, get_or, arith, refl, sym, ◌∙◌, subst, inl, inr}
+use Rattle.std.proofs.Common.{◌≡◌, ◌+◌, ◌≤◌, ◌⊎◌, get_or, arith, sym, ◌∙◌, inl, inr}
 use Rattle.std.proofs.Math.Nat.{mul-le-mul_right}
 use Rattle.std.proofs.lemmas.Bool.{cases_lt}
 use Rattle.std.proofs.lemmas.List.{get_or-map}
 use Rattle.std.proofs.lemmas.List.Elements.{Contains-get_or}
 use Rattle.coord_model.specs.Choice.{Settings}
 use Rattle.coord_model.specs.declared.study.Row.{Row}
-use Rattle.margin_rows.specs.Box.{AreIn, Box, FitsBox, LiesIn, no_steps}
+use Rattle.margin_rows.specs.Box.{Box, FitsBox, no_steps}
 use Rattle.margin_rows.specs.Case.{Case, FitsCase, rows_in}
 use Rattle.margin_rows.specs.FirstBox.{IsInFirstBox}
-use Rattle.margin_rows.specs.Least.{IsStrict, IsStrictLeast}
 use Rattle.margin_rows.specs.Lowest.{HasOnePickup, lowest_of}
 use Rattle.margin_rows.specs.Demands.{asked_ps, fast_part, granted_ps, slow_part}
 use Rattle.margin_rows.specs.Margin.{MeetsLoosely, MeetsStrictly, greatest_ps, least_ps}
 use Rattle.margin_rows.specs.declared.span.Steps.{Steps}
 use Rattle.margin_rows.proofs.Boxed.{allowed_meets, strict_allowed}
 use Rattle.margin_rows.proofs.Dialled.{dial_rises}
-use Rattle.margin_rows.proofs.LowestSettings.{lowest_first, lowest_lies, none_below, same_pickups}
+use Rattle.margin_rows.proofs.LowestSettings.{none_below, same_pickups}
 use Rattle.box_range.specs.Drops.{CanMeet, IsTight, MeetsAllLoosely}
 use Rattle.box_range.specs.Kinds.{span_at}
 use Rattle.box_range.specs.Kinds as side
-use Rattle.box_range.specs.Whole.{IsWhole}
 use Rattle.box_range.specs.declared.kind.Kind.TheVariants.{Dial}
 use Rattle.box_range.proofs.Meets.{parts_meet}
 use Rattle.box_range.proofs.Places.{relay_counts}
@@ -74,22 +72,3 @@ module _ (case : Case) (box : Box) (fits : FitsBox case box) (tight : IsTight ca
               droppable = record { row = row; listed = listed; unmet = none_meets row listed fails };
             }))
       ]
-
-  -- the strict-least settings of its pickups lie in a whole one
-  pub strict_lies : (other : Settings) → FitsCase case → IsWhole case box → IsStrict case (lowest_of box).pickup other → LiesIn box other
-  strict_lies other limits whole strict =
-      let low = lowest_first case box fits tight.steps in
-      let inside : IsInFirstBox case other = record { on_steps = strict.on_steps; sensible = rw strict.same_pickups low.sensible } in
-      let P : List ℕ → Type 0 = λ pickups. AreIn box.pickup pickups in
-      whole.holds other inside (subst P (sym strict.same_pickups) (lowest_lies box tight.steps).pickup) (strict_is_loose case other limits inside strict.met)
-
-  -- if the lowest settings strictly meet every row, they are strict
-  pub lowest_strict : All (MeetsStrictly case (lowest_of box)) (rows_in case) → IsStrict case (lowest_of box).pickup (lowest_of box)
-  lowest_strict met = record { same_pickups = refl; on_steps = (lowest_first case box fits tight.steps).on_steps; met = met }
-
-  -- and in a whole box the strict-least of their pickups
-  pub lowest_is_least : FitsCase case → IsWhole case box → All (MeetsStrictly case (lowest_of box)) (rows_in case) → IsStrictLeast case (lowest_of box).pickup (lowest_of box)
-  lowest_is_least limits whole met = record {
-    meet = lowest_strict met;
-    least = λ other strict. none_below box other (strict_lies other limits whole strict);
-  }

@@ -12,7 +12,7 @@ use Rattle.box_range.specs.Drops.{CanMeet}
 use Rattle.box_range.specs.Kinds.{span_at}
 use Rattle.box_range.specs.Looks.{IsSettling, IsUnmoved}
 use Rattle.box_range.specs.Meeting.{Asks, MeetsWith, best_steps, with_step, relay_of}
-use Rattle.box_range.specs.Rounds.{IsDue, IsDueOrSettled, HasPlaces, AreFlagged, IsIdle, IsBusy}
+use Rattle.box_range.specs.Rounds.{IsDue, IsDueOrSettled, HasPlaces, AreFlagged, IsBusy}
 use Rattle.box_range.specs.Settled.{IsSettled}
 use Rattle.box_range.specs.declared.kind.Kind.{Kind}
 use Rattle.box_range.specs.declared.kind.Kind.TheVariants.{Pickup, Dial}
@@ -112,12 +112,4 @@ busy case row box later moved flags later_flags filled settling flagged some = r
   count = flagged.count;
   settled = settling.settled;
   others = others_left case row box later moved flags later_flags filled settling flagged;
-}
-
-pub idle : (case : Case) (row : Row) (box later : Box) (moved : Moved) (flags later_flags : List Bool) → IsSettling case row box later moved
-    → AreFlagged row moved flags later_flags → moved.backup ≡ false → moved.primary ≡ false → IsIdle case row box later flags later_flags
-idle case row box later moved flags later_flags settling flagged no_backup no_primary = record {
-  same_box = settling.unchanged no_backup no_primary;
-  same_flags = flagged.unchanged no_backup no_primary;
-  settled = settling.settled;
 }

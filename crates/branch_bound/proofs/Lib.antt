@@ -9,5 +9,6 @@ pub mod Sizes
 pub mod Placing
 pub mod Starting
 pub mod Stepped
+pub mod Leading
 pub mod Hairs
 pub mod Concluded

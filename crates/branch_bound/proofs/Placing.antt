@@ -22,7 +22,7 @@ use Rattle.std.specs.Option.{IfSome}
 use Rattle.search_tree.specs.Plan.{plan_of}
 use Rattle.search_tree.specs.Steps.{IsFirst}
 use Rattle.search_tree.specs.declared.slot.Slot.{Slot}
-use Rattle.search_tree.proofs.Firsts.{first_once, lead_first, turn_all}
+use Rattle.search_tree.proofs.Firsts.{first_once, lead_first, open_within, turn_all, turn_map}
 use Rattle.step_rules.specs.Handlings.{LeavesHalves, tree_of as handling_tree}
 use Rattle.step_rules.specs.Issuing.{IsPriced, latest, settings_of}
 use Rattle.step_rules.specs.Rules.{Handled}
@@ -30,6 +30,7 @@ use Rattle.step_rules.specs.declared.handling.Handling.{Handling}
 use Rattle.step_rules.specs.declared.handling.Handling.TheVariants as handling
 use Rattle.step_rules.specs.declared.issued.Issued.{Issued}
 use Rattle.branch_bound.specs.Advancing.{IsAdvance}
+use Rattle.branch_bound.specs.Leading.{IsTurnedInto, is_closed, is_split}
 use Rattle.branch_bound.specs.Searching.{Placed}
 use Rattle.branch_bound.specs.Taking.{Takes, becomes}
 
@@ -73,7 +74,7 @@ placed_open case box (closed m leaf) placed there = elim there [ ]
 placed_open case box (opened m b v) (ranges, bound, is) open_here = is
 
 -- and has the bound of its place
-placed_bound : (case : Case) (box : Box) (plan : Plan OpenBox) {n b : ℕ} {v : OpenBox} → Placed case box plan → HasOpen n b v plan → v.bound ≡ b
+pub placed_bound : (case : Case) (box : Box) (plan : Plan OpenBox) {n b : ℕ} {v : OpenBox} → Placed case box plan → HasOpen n b v plan → v.bound ≡ b
 placed_bound case box (split_plan m relay at l h) (low, high, halves, all_low, all_high) (open_low there) = placed_bound case low l all_low there
 placed_bound case box (split_plan m relay at l h) (low, high, halves, all_low, all_high) (open_high there) = placed_bound case high h all_high there
 placed_bound case box (closed m leaf) placed there = elim there [ ]
@@ -129,33 +130,46 @@ taken case gap issued later value (handling.Void rows) number next handled halve
 taken case gap issued later value (handling.Bound weights) number next handled halves = (handled, tt)
 taken case gap issued later value (handling.Hair row) number next handled halves = (handled, tt)
 
+-- what became of a leaf is closed, or split over halves that are made after all open leaves
+turned_into : (slots : List (Slot OpenBox)) (done : Handling) (number : ℕ) → IsTurnedInto (plan_of slots) (becomes done number (length slots))
+turned_into slots (handling.Split relay at low high) number = is_split (open_within slots) (omega arith)
+turned_into slots handling.Empty number = is_closed
+turned_into slots (handling.Void rows) number = is_closed
+turned_into slots (handling.Bound weights) number = is_closed
+turned_into slots (handling.Hair row) number = is_closed
+
 -- the open box that comes first was handled
-pub advanced : (case : Case) (gap : ℕ) (issued later : Option Issued) (done : Handling) (number next : ℕ) (value : OpenBox) (slots more : List (Slot OpenBox))
+pub advanced : (case : Case) (gap : ℕ) (issued later : Option Issued) (done : Handling) (number : ℕ) (value : OpenBox) (slots more : List (Slot OpenBox))
     → IsFirst (plan_of slots) number value → Handled case gap value.ranges (leaf_weights value.weights) (settings_of issued) (settings_of later) (handling_tree done) → LeavesHalves case value done
-    → IfSome later (IsPriced case) → length more ≤ length slots + 2 → Takes done next (plan_of slots) (plan_of more) → IsAdvance case gap issued later slots more
-advanced case gap issued later done number next value slots more first handled halves priced count takes = record {
+    → IfSome later (IsPriced case) → length more ≤ length slots + 2 → Takes done (length slots) (plan_of slots) (plan_of more) → IsAdvance case gap issued later slots more
+advanced case gap issued later done number value slots more first handled halves priced count takes = record {
+  first = turn_map Q (λ n v after. IsFirst (plan_of slots) n v × IsTurnedInto (plan_of slots) after)
+      (λ n v after q. (q.0, subst (λ (p : Plan OpenBox). IsTurnedInto (plan_of slots) p) (sym q.1) (turned_into slots done n))) takes;
   turned = λ box placed. (whole box placed).turned;
   placed = λ box placed. (whole box placed).placed;
   leads = λ box least placed lead.
       let same = lead_first (plan_of slots) least number value lead first in
       let bound = placed_bound case box (plan_of slots) placed first.open_leaf in
-      turn_all (λ e. least ≤ e.0) (λ n v after. IsFirst (plan_of slots) n v × (after ≡ becomes done n next))
-      (λ n v after q. subst (λ (p : Plan OpenBox). All (λ e. least ≤ e.0) (entries p)) (sym q.1) (not_below case value least done n next (omega (arith, same, bound)) halves)) takes lead.1;
+      turn_all (λ e. least ≤ e.0) Q
+      (λ n v after q. subst (λ (p : Plan OpenBox). All (λ e. least ≤ e.0) (entries p)) (sym q.1) (not_below case value least done n (length slots) (omega (arith, same, bound)) halves)) takes lead.1;
   priced = priced;
   count = count;
 }
   where
+    Q : ℕ → OpenBox → Plan OpenBox → Type 0
+    Q n v after = IsFirst (plan_of slots) n v × (after ≡ becomes done n (length slots))
+
     R : Box → LeafWeights → Tree → Type 0
     R box own tree = Handled case gap box own (settings_of issued) (settings_of later) tree
 
-    one : (n : ℕ) (v : OpenBox) (after : Plan OpenBox) → IsFirst (plan_of slots) n v × (after ≡ becomes done n next) → R v.ranges (leaf_weights v.weights) (tree_of leaf_of after) × Placed case v.ranges after
+    one : (n : ℕ) (v : OpenBox) (after : Plan OpenBox) → Q n v after → R v.ranges (leaf_weights v.weights) (tree_of leaf_of after) × Placed case v.ranges after
     one n v after q =
         let same = first_once (plan_of slots) number n value v first q.0 in
         let P : OpenBox → Plan OpenBox → Type 0 = λ w p. R w.ranges (leaf_weights w.weights) (tree_of leaf_of p) × Placed case w.ranges p in
-        rw (q.1, same.1) (taken case gap issued later value done n next handled halves)
+        rw (q.1, same.1) (taken case gap issued later value done n (length slots) handled halves)
 
     whole : (box : Box) → Placed case box (plan_of slots) → IsTurned case R box (plan_of slots) (plan_of more)
-    whole box placed = turned_plan case (λ n v after. IsFirst (plan_of slots) n v × (after ≡ becomes done n next)) R one box (plan_of slots) (plan_of more) takes placed
+    whole box placed = turned_plan case Q R one box (plan_of slots) (plan_of more) takes placed
 
 -- the settings that are issued after a step are the new ones if there are some, else those of before
 pub latest_some : (before new : Option Issued) → is_some new ≡ true → latest before new ≡ settings_of new

@@ -7,8 +7,7 @@ use Rattle.margin_rows.specs.Case.{Case, FitsCase}
 use Rattle.margin_rows.specs.Gap.{IsGapEnough}
 use Rattle.margin_rows.proofs.Spanned.{first_box_fits, first_box_only}
 use Rattle.search_tree.specs.Harvest.{tree_of}
-use Rattle.search_tree.specs.Plan.{Plan, entries, opened, plan_of}
-use Rattle.std.proofs.lemmas.List.Elements.{All-contains}
+use Rattle.search_tree.specs.Plan.{Plan, opened, plan_of}
 use Rattle.search_tree.specs.declared.slot.Slot.{Slot}
 use Rattle.step_rules.specs.Issuing.{settings_of}
 use Rattle.step_rules.specs.OpenBoxes.{IsOpenBox}
@@ -16,7 +15,7 @@ use Rattle.step_rules.specs.Usable.{leaf_weights, open_with, plain_weights}
 use Rattle.step_rules.specs.declared.issued.Issued.{Issued}
 use Rattle.step_rules.specs.declared.open_box.OpenBox.{OpenBox}
 use Rattle.cert_tree.specs.Endings.{boxes}
-use Rattle.branch_bound.specs.Advancing.{HasNotFallen, IsAdvance, IsStepOf}
+use Rattle.branch_bound.specs.Advancing.{IsAdvance, IsStepOf}
 use Rattle.branch_bound.specs.Facts.{IsSound}
 use Rattle.branch_bound.specs.Machine.{IsDone, IsStep, Run, State, first_state, more}
 use Rattle.branch_bound.specs.Searching.{IsSearch, Placed, Search, state_of, tree_in}
@@ -58,17 +57,9 @@ module _ (search : Search) (issued : Option Issued) (slots : List (Slot OpenBox)
     priced = advance.priced;
   }
 
--- the lead has not fallen
-pub not_fallen : (search : Search) (issued : Option Issued) (slots : List (Slot OpenBox)) → IsSearch search → IsAdvance search.case search.gap search.issued issued search.slots slots → HasNotFallen search (next search issued slots)
-not_fallen search issued slots is advance least later lead lead_later =
-    All-contains (λ e. least ≤ e.0) (entries (plan_of slots)) (later, lead_later.0.0) (advance.leads is.first least is.placed lead) lead_later.0.1
-
-pub not_fallen_from : (seen search : Search) (issued : Option Issued) (slots : List (Slot OpenBox)) → search ≡ seen → HasNotFallen search (next search issued slots) → HasNotFallen seen (next search issued slots)
-not_fallen_from seen search issued slots is fallen = rw (← is) fallen
-
--- the step as it is seen from what the search was
-pub stepped_from : (seen search : Search) (issued : Option Issued) (slots : List (Slot OpenBox)) → search ≡ seen → IsStepOf search (next search issued slots) → IsStepOf seen (next search issued slots)
-stepped_from seen search issued slots is step = rw (← is) step
+-- a fact of two searches as it is seen from what the one was
+pub as_seen : (P : Search → Search → Type 0) (seen search later : Search) → search ≡ seen → P search later → P seen later
+as_seen P seen search later is fact = subst (λ (s : Search). P s later) is fact
 
 -- a search that goes on has room for two nodes more
 pub room : (search : Search) → IsSearch search → ¬ (IsDone search.budget (state_of search)) → length search.slots + 2 ≤ 400001

@@ -4,20 +4,25 @@ use Rattle.margin_rows.specs.Box.{Box, IsFirstBox}
 use Rattle.margin_rows.specs.Case.{Case}
 use Rattle.margin_rows.specs.Gap.{IsGapEnough, IsLeastGap}
 use Rattle.search_tree.specs.Plan.{entries, plan_of}
-use Rattle.search_tree.specs.Steps.{IsLead}
+use Rattle.search_tree.specs.Steps as steps
+use Rattle.search_tree.specs.Steps.{IsFirst, IsLead}
 use Rattle.search_tree.specs.declared.slot.Slot.{Slot}
 use Rattle.step_rules.specs.Issuing.{IsPriced, settings_of}
 use Rattle.step_rules.specs.Rules.{Handled}
 use Rattle.step_rules.specs.declared.issued.Issued.{Issued}
 use Rattle.step_rules.specs.declared.open_box.OpenBox.{OpenBox}
+use Rattle.branch_bound.specs.Leading.{IsLeast, IsTurnedInto}
 use Rattle.branch_bound.specs.Machine.{IsStep, Turns, first_state}
 use Rattle.branch_bound.specs.Searching.{Placed, Search, state_of, tree_in}
 use Rattle.branch_bound.specs.declared.fault.SearchFault.{SearchFault}
 use Rattle.branch_bound.specs.declared.fault.SearchFault.TheVariants.{GapTooSmall, NoMemory}
 
--- one open box of the tree was handled, and settings may have been issued
+-- the open box of the tree that comes first was handled, and settings may have been issued
 pub record IsAdvance (case : Case) (gap : ℕ) (issued later : Option Issued)
     (slots more : List (Slot OpenBox)) : Type 0 where
+  pub first : steps.Turns
+      (λ number value tree. IsFirst (plan_of slots) number value × IsTurnedInto (plan_of slots) tree)
+      (plan_of slots) (plan_of more)
   pub turned : (first : Box) → Placed case first (plan_of slots)
       → Turns case
       (λ box own tree. Handled case gap box own (settings_of issued) (settings_of later) tree)
@@ -41,8 +46,7 @@ pub record IsStepOf (before after : Search) : Type 0 where
 -- the least bound of the open boxes did not fall
 abbrev pub HasNotFallen : Search → Search → Type 0
 HasNotFallen before after =
-    (least later : ℕ) → IsLead (plan_of before.slots) (Some least)
-    → IsLead (plan_of after.slots) (Some later) → least ≤ later
+    (least later : ℕ) → IsLeast before least → IsLeast after later → least ≤ later
 
 -- the search is at its beginning
 pub record IsAtStart (case : Case) (gap budget : ℕ) (search : Search) : Type 0 where

@@ -3,6 +3,7 @@ pub mod Choices
 pub mod Concluding
 pub mod Facts
 pub mod HairLeaf
+pub mod Leading
 pub mod Machine
 pub mod Outcome
 pub mod Searching

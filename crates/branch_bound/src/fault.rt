@@ -1,11 +1,14 @@
 //! Why a search does not begin or end.
 use coord_model::NoMemory;
+use thiserror::Error;
 
 /// Why a search does not begin, or want of memory.
-#[derive(Clone, Copy, PartialEq, Eq, Debug)]
+#[derive(Clone, Copy, PartialEq, Eq, Debug, Error)]
 pub enum SearchFault {
     /// The gap is below the least gap of the study; both are in whole weighted microseconds.
+    #[error("the gap {given} is below the least gap {least}")]
     GapTooSmall { given: u64, least: u64 },
+    #[error("memory ran out")]
     NoMemory,
 }
 

@@ -17,6 +17,3 @@ pub use fault::SearchFault;
 pub use outcome::{HairPlace, Outcome};
 pub use solver::Solver;
 pub use whole::search;
-
-#[cfg(test)]
-mod tests;

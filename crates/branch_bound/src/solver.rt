@@ -57,9 +57,8 @@ impl<'a> Model for Solver<'a> {
 }
 
 impl<'a> Solver<'a> {
-    ghost use Rattle.search_tree.specs.Plan.{plan_of};
-    ghost use Rattle.search_tree.specs.Steps.{IsLead};
     ghost use Rattle.branch_bound.specs.Advancing.{HasNotFallen, IsBegun, IsStepOf};
+    ghost use Rattle.branch_bound.specs.Leading.{IsLeadOf, TurnsFirst};
     ghost use Rattle.branch_bound.specs.Machine.{IsDone};
     ghost use Rattle.branch_bound.specs.Outcome.{IsOutcome};
     ghost use Rattle.branch_bound.specs.Searching.{state_of};
@@ -103,9 +102,12 @@ impl<'a> Solver<'a> {
     /// The least bound of the open boxes, in whole weighted microseconds; 0 if the first box has an empty span and is
     /// still open. `None`: no box is open.
     pub fn lead(&self) -> Option<u64>
-        ensures { IsLead (plan_of self.now.slots) result }
+        ensures { IsLeadOf self.now result }
     {
-        self.tree.lead()
+        match self.tree.first() {
+            Some((_, open)) => Some(open.bound),
+            None => None,
+        }
     }
 
     /// Handles one open box: of those with the least bound the one made first, a low half before its high half.
@@ -114,8 +116,9 @@ impl<'a> Solver<'a> {
     pub fn step<A: Adviser>(&mut self, adviser: &mut A) -> Result<(), NoMemory>
         requires goes_on { ¬ (IsDone self.old.budget (state_of self.old)) }
 
-        // It is a step of the machine, on a box whose bound is the least.
+        // It is a step of the machine, on the open box that comes first.
         ensures stepped { OnOk result (IsStepOf self.old self.new) }
+        ensures first { OnOk result (TurnsFirst self.old self.new) }
         ensures unchanged { OnErr result (self.new ≡ self.old) }
 
         // The least bound of the open boxes never falls.

@@ -1,11 +1,14 @@
 -- Laws of the first open leaf, and of a tree after one turn, for those who build on this crate.
-use Rattle.std.proofs.Common.{◌≡◌, ℕ, ◌+◌, ◌≤◌, List, [], ◌∷◌, ◌++◌, arith, subst, refl}
-use Rattle.std.specs.Prelude.{Contains, All}
-use Rattle.std.specs.declared.option.Option.TheVariants.{Some}
-use Rattle.std.specs.List.{sum_by}
+use Rattle.std.proofs.Common.{◌≡◌, ℕ, ◌+◌, ◌<◌, ◌≤◌, List, [], ◌∷◌, ◌++◌, length, arith, subst, refl}
+use Rattle.std.specs.Prelude.{zero, suc, Contains, All}
+use Rattle.std.specs.List.{slice_get}
+use Rattle.std.specs.declared.option.Option.{Option}
+use Rattle.std.specs.declared.option.Option.TheVariants.{None, Some}
+use Rattle.std.proofs.lemmas.Option.{slice_get_within}
 use Rattle.std.proofs.lemmas.List.Elements.{Contains-append_left, Contains-append_right, All-contains, All-nil, All-cons, All-head, All-tail, All-append}
-use Rattle.std.proofs.lemmas.List.Sums.{sum_by-append}
-use Rattle.search_tree.specs.Plan.{Plan, split, closed, opened, entries, nodes_in, HasOpen, open_here, open_low, open_high}
+use Rattle.search_tree.specs.declared.slot.Slot.{Slot}
+use Rattle.search_tree.specs.declared.slot.Slot.TheVariants.{Split, Closed, Open}
+use Rattle.search_tree.specs.Plan.{Plan, split, closed, opened, node_of, plan_from, plan_at, plan_of, entries, HasOpen, open_here, open_low, open_high}
 use Rattle.search_tree.specs.Steps.{ComesBy, IsFirst, IsLead, Turns, turn_here, turn_low, turn_high}
 
 module _ {X : Type 0} (P : X → Type 0) where
@@ -25,6 +28,31 @@ module _ {T : Type 0} where
   open_entry (closed m leaf) at = elim at [ ]
   open_entry (opened m b v) open_here = (0, omega arith, refl)
 
+  -- what holds of each open leaf holds of each entry
+  pub all_open : (P : ℕ × ℕ → Type 0) (p : Plan T) → ((n b : ℕ) (v : T) → HasOpen n b v p → P (b, n)) → All P (entries p)
+  all_open P (split m r a l h) each = All-append P (entries l) (entries h) (all_open P l (λ n b v at. each n b v (open_low at))) (all_open P h (λ n b v at. each n b v (open_high at)))
+  all_open P (closed m leaf) each = All-nil P
+  all_open P (opened m b v) each = All-cons P (b, m) [] (each m b v open_here) (All-nil P)
+
+  module _ (slots : List (Slot T)) where
+    abbrev IsWithin : ℕ × ℕ → Type 0
+    IsWithin e = e.1 < length slots
+
+    within_node : (below : ℕ → Plan T) → ((n : ℕ) → All IsWithin (entries (below n))) → (n : ℕ) (o : Option (Slot T)) → slice_get slots n ≡ o → All IsWithin (entries (node_of below n o))
+    within_node below each n None is = All-nil IsWithin
+    within_node below each n (Some (Split relay at low)) is = All-append IsWithin (entries (below low)) (entries (below (low + 1))) (each low) (each (low + 1))
+    within_node below each n (Some (Closed leaf)) is = All-nil IsWithin
+    within_node below each n (Some (Open b v)) is = All-cons IsWithin (b, n) [] (slice_get_within slots n (Open b v) is) (All-nil IsWithin)
+
+    within_from : (most n : ℕ) → All IsWithin (entries (plan_from most slots n))
+    within_from zero n = All-nil IsWithin
+    within_from (suc most) n = within_node (λ k. plan_from most slots k) (within_from most) n (slice_get slots n) refl
+
+  -- the open leaves have numbers below the count of slots
+  pub open_within : (slots : List (Slot T)) → All (λ e. e.1 < length slots) (entries (plan_of slots))
+  unfolding plan_at
+  open_within slots = within_from slots (length slots) 0
+
   -- only one open leaf comes first
   pub first_once : (p : Plan T) (n m : ℕ) (v w : T) → IsFirst p n v → IsFirst p m w → (m ≡ n) × (w ≡ v)
   first_once p n m v w first other =
@@ -37,61 +65,6 @@ module _ {T : Type 0} where
       let t = b.1 s in
       let same : m ≡ n = omega arith in
       (same, first.only other.bound w (subst (λ k. HasOpen k other.bound w p) same other.open_leaf))
-
-  -- one turn, told by the leaf that is turned and by the tree that comes in its place
-  pub record Turn (Q : ℕ → T → Plan T → Type 0) (before after : Plan T) : Type 0 where
-    pub number : ℕ
-    pub bound : ℕ
-    pub value : T
-    pub new : Plan T
-    pub open_leaf : HasOpen number bound value before
-    pub allowed : Q number value new
-    pub entries_sum : (f : ℕ × ℕ → ℕ) → sum_by f (entries after) + f (bound, number) ≡ sum_by f (entries before) + sum_by f (entries new)
-    pub nodes_sum : nodes_in after + 1 ≡ nodes_in before + nodes_in new
-
-  pub turn_of : (Q : ℕ → T → Plan T → Type 0) {before after : Plan T} → Turns Q before after → Turn Q before after
-  turn_of Q (turn_low {l = l} {h = h} {after = new} t) =
-      let x = turn_of Q t in
-      record {
-        number = x.number;
-        bound = x.bound;
-        value = x.value;
-        new = x.new;
-        open_leaf = open_low x.open_leaf;
-        allowed = x.allowed;
-        entries_sum = λ f.
-            let e = x.entries_sum f in
-            let p = sum_by-append f (entries new) (entries h) in
-            let q = sum_by-append f (entries l) (entries h) in
-            omega arith;
-        nodes_sum = let e = x.nodes_sum in omega arith;
-      }
-  turn_of Q (turn_high {l = l} {h = h} {after = new} t) =
-      let x = turn_of Q t in
-      record {
-        number = x.number;
-        bound = x.bound;
-        value = x.value;
-        new = x.new;
-        open_leaf = open_high x.open_leaf;
-        allowed = x.allowed;
-        entries_sum = λ f.
-            let e = x.entries_sum f in
-            let p = sum_by-append f (entries l) (entries new) in
-            let q = sum_by-append f (entries l) (entries h) in
-            omega arith;
-        nodes_sum = let e = x.nodes_sum in omega arith;
-      }
-  turn_of Q (turn_here {number = n} {bound = b} {value = v} {after = new} ok) = record {
-    number = n;
-    bound = b;
-    value = v;
-    new = new;
-    open_leaf = open_here;
-    allowed = ok;
-    entries_sum = λ f. omega arith;
-    nodes_sum = omega arith;
-  }
 
   -- the open leaf that comes first has the least bound
   pub lead_first : (p : Plan T) (least n : ℕ) (v : T) → IsLead p (Some least) → (first : IsFirst p n v) → first.bound ≡ least
@@ -110,3 +83,9 @@ module _ {T : Type 0} where
   turn_all P Q ok (turn_high {l = l} {h = h} {after = new} t) all =
       All-append P (entries l) (entries new) (all_left P (entries l) (entries h) all) (turn_all P Q ok t (all_right P (entries l) (entries h) all))
   turn_all P Q ok (turn_here {number = n} {value = v} {after = new} q) all = ok n v new q
+
+  -- what is known of the tree that comes in may be told in other words
+  pub turn_map : (P Q : ℕ → T → Plan T → Type 0) → ((n : ℕ) (v : T) (new : Plan T) → P n v new → Q n v new) → {before after : Plan T} → Turns P before after → Turns Q before after
+  turn_map P Q f (turn_low t) = turn_low (turn_map P Q f t)
+  turn_map P Q f (turn_high t) = turn_high (turn_map P Q f t)
+  turn_map P Q f (turn_here {number = n} {value = v} {after = new} p) = turn_here (f n v new p)

@@ -48,12 +48,6 @@ entries (split number relay at low high) = entries low ++ entries high
 entries (closed number leaf) = []
 entries (opened number bound value) = (bound, number) ∷ []
 
--- how many nodes a tree has
-abbrev pub nodes_in : {T : Type 0} → Plan T → ℕ
-nodes_in (split number relay at low high) = 1 + (nodes_in low + nodes_in high)
-nodes_in (closed number leaf) = 1
-nodes_in (opened number bound value) = 1
-
 -- the tree has an open leaf of this number, bound and value
 pub data HasOpen {T : Type 0} (number bound : ℕ) (value : T) : Plan T → Type 0 where
   open_here : HasOpen number bound value (opened number bound value)

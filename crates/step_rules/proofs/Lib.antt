@@ -1,4 +1,4 @@
-mod Bests
+pub mod Bests
 mod Pickups
 mod Rises
 mod RuleLaws

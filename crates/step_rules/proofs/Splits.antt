@@ -1,12 +1,10 @@
 -- Where a box can be split.
-use Rattle.std.specs.Prelude.{slice_get}
 use Rattle.std.proofs.Common.{◌≡◌, ℕ, ◌+◌, ◌<◌, suc, length, get_or, inl, inr, arith}
 use Rattle.std.proofs.lemmas.Bool.{cases_lt}
-use Rattle.std.proofs.lemmas.Option.{slice_get-get_or, slice_get_within}
+use Rattle.std.proofs.lemmas.Option.{slice_get-get_or}
 use Rattle.margin_rows.specs.Box.{Box, HasNoEmptySpan, no_steps}
-use Rattle.margin_rows.specs.Halves.{CanSplit, HasNext}
+use Rattle.margin_rows.specs.Halves.{CanSplit}
 use Rattle.margin_rows.specs.Lowest.{HasOnePickup}
-use Rattle.margin_rows.proofs.Places.{some_and}
 use Rattle.margin_rows.proofs.Within.{each_some, some_each}
 
 -- a box that cannot be split has one pickup step for each relay
@@ -20,9 +18,3 @@ all_single box steps none = record {
         | inr few ↦ omega (arith, some, few)
       ]);
 }
-
--- the relay is one of the box
-pub split_within : (box : Box) (relay step : ℕ) → CanSplit box relay step → relay < length box.pickup
-split_within box relay step can =
-    let there = some_and (slice_get box.pickup relay) (λ span. HasNext span step) can in
-    slice_get_within box.pickup relay there.0 there.1

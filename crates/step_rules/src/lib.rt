@@ -18,6 +18,3 @@ pub use handling::Handling;
 pub use issued::Issued;
 pub use open_box::OpenBox;
 pub use rules::handle;
-
-#[cfg(test)]
-mod tests;

@@ -12,7 +12,7 @@ returns-clause-halves c =
     let tight = c.args.tight.now.ranges in
     let within = drops_within case parent.ranges tight c.requires.tightens.drops in
     let own = leaf_weights parent.weights in
-    let before = c.requires.parent.bound (steps_round tight parent.ranges within c.requires.tight.tight.steps) in
+    let before = c.requires.parent.bound.steps (steps_round tight parent.ranges within c.requires.tight.tight.steps) in
     let lower : IsHalf c.in_ok-lower.lower tight = c.in_ok-lower.ensures.low in
     let upper : IsHalf c.in_ok-lower.upper tight = c.in_ok-lower.ensures.high in
     record {

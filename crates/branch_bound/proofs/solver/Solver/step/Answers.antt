@@ -3,7 +3,10 @@ use Rattle.search_tree.specs.Plan.{plan_of}
 use Rattle.branch_bound.specs.Machine.{IsDone}
 use Rattle.branch_bound.specs.Searching.{Search, state_of}
 use Rattle.branch_bound.proofs.Starting.{open_listed}
-use Rattle.branch_bound.proofs.Stepped.{next_is, next_step, not_fallen, not_fallen_from, room, stepped_from}
+use Rattle.branch_bound.specs.Advancing.{HasNotFallen, IsStepOf}
+use Rattle.branch_bound.specs.Leading.{TurnsFirst}
+use Rattle.branch_bound.proofs.Leading.{not_fallen, turns_first}
+use Rattle.branch_bound.proofs.Stepped.{as_seen, next_is, next_step, room}
 use Rattle.branch_bound.proofs.solver.Solver.step.Goals as goal
 
 -- the search goes on
@@ -21,9 +24,15 @@ invariant_of-self-2 g c = next_is _ c.advance.new.issued c.advance.new.tree c.se
 
 pub returns-clause-stepped : goal.returns-clause-stepped
 returns-clause-stepped g c =
-    stepped_from c.args.self.now _ c.advance.new.issued c.advance.new.tree c.self.view_is
+    as_seen IsStepOf c.args.self.now _ _ c.self.view_is
     (next_step _ c.advance.new.issued c.advance.new.tree c.self.invariant (subst GoesOn (sym c.self.view_is) c.requires.goes_on) c.in_ok-advance.ensures.advanced)
+
+pub returns-clause-first : goal.returns-clause-first
+returns-clause-first g c =
+    as_seen TurnsFirst c.args.self.now _ _ c.self.view_is
+    (turns_first _ c.advance.new.issued c.advance.new.tree c.self.invariant (subst GoesOn (sym c.self.view_is) c.requires.goes_on) c.in_ok-advance.ensures.advanced)
 
 pub returns-clause-rises : goal.returns-clause-rises
 returns-clause-rises g c =
-    not_fallen_from c.args.self.now _ c.advance.new.issued c.advance.new.tree c.self.view_is (not_fallen _ c.advance.new.issued c.advance.new.tree c.self.invariant c.in_ok-advance.ensures.advanced)
+    as_seen HasNotFallen c.args.self.now _ _ c.self.view_is
+    (not_fallen _ c.advance.new.issued c.advance.new.tree c.self.invariant (subst GoesOn (sym c.self.view_is) c.requires.goes_on) c.in_ok-advance.ensures.advanced)

@@ -1,16 +1,13 @@
-//! Searches that are worked out by hand: curve B takes 13.5/(M - 1) seconds at the multiple of pickup M and dial 1.
+//! What whole searches come to.
 ghost use Rattle.std.specs.Prelude.{◌≤◌};
 
-use crate::{Outcome, SearchFault, Solver, search};
+use super::{BUDGET, FIRST_ROW, GAP, SECOND_ROW};
 use advice::{Advice, Adviser, NullAdviser};
-use coord_model::{Ending, NoMemory, Weight, Weights};
+use branch_bound::{Outcome, SearchFault, Solver, search};
+use coord_model::{Ending, NoMemory, Weights};
 use hand_studies::{capped_line, parallel_lines, relay_chain, tied_lines, two_pickups};
 use margin_rows::{BuildFault, Instance, Ranges};
 use std::alloc::Global;
-
-const GAP: u64 = 1_000;
-
-const BUDGET: u32 = 20_000;
 
 /// An adviser that weighs both rows once, and the cost four times, and says nothing of use afterwards.
 #[derive(Clone, Copy)]
@@ -30,7 +27,7 @@ impl Adviser for Once {
             return Ok(advice);
         }
         self.asked = true;
-        let both = [Weight { row: 0, weight: 1 }, Weight { row: 1, weight: 1 }];
+        let both = [FIRST_ROW, SECOND_ROW];
         Ok(Advice {
             weights: Weights {
                 lambda: 4,
