@@ -48,6 +48,11 @@ pub record IsTight (case : Case) (box : Box) : Type 0 where
   pub steps : HasNoEmptySpan box
   pub no_drop : ¬ (Drop case box)
 
+-- the box tightens to this one: drops lead to it, and it is tight
+pub record TightensTo (case : Case) (box tight : Box) : Type 0 where
+  pub led : Drops case box tight
+  pub no_more : IsTight case tight
+
 -- the box is emptied: drops lead from it to a box with an empty span
 pub record IsEmptied (case : Case) (box : Box) : Type 0 where
   pub end : Box

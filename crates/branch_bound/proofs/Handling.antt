@@ -19,10 +19,11 @@ use Rattle.margin_rows.specs.Unmet.{IsFirstUnmet}
 use Rattle.margin_rows.specs.declared.span.Steps.{Steps}
 use Rattle.margin_rows.proofs.Halved.{halves_are}
 use Rattle.margin_rows.proofs.Places.{some_and}
-use Rattle.cert_tree.specs.NodeRules.{IsTightBox, NamesRows}
+use Rattle.box_range.specs.Drops.{TightensTo}
+use Rattle.cert_tree.specs.NodeRules.{NamesRows}
 use Rattle.cert_tree.proofs.TightBoxes.{tight_fits}
 use Rattle.step_rules.specs.Offers.{PlainReaches, offered}
-use Rattle.step_rules.specs.Premises.{Advised, ClosesBy, IsAsked, IsSingle, IsVoidBy, TightensTo}
+use Rattle.step_rules.specs.Premises.{Advised, ClosesBy, IsAsked, IsSingle, IsVoidBy}
 use Rattle.step_rules.specs.Rules.{Handled, closed, closed_later, divided, emptied, single_closed, single_open, voided, weighed}
 use Rattle.step_rules.specs.Splits.{IsSplitPlace, IsUsedAdvice, candidates}
 use Rattle.step_rules.specs.Usable.{LeafWeights, open_with, plain_weights}
@@ -35,9 +36,6 @@ AreNamed case rows = All (λ (w : Weight). w.row < length (rows_in case)) rows
 
 pub none_named : (case : Case) → AreNamed case []
 none_named case i d below = absurd (omega (arith, below))
-
-tight_of : {case : Case} {box tight : Box} → TightensTo case box tight → IsTightBox case box tight
-tight_of to = record { led = to.drops; no_more = to.no_more }
 
 -- the line is that of a hair leaf
 abbrev OnHair : NodeLine → Type 0
@@ -66,14 +64,14 @@ module _ (case : Case) (gap : ℕ) (box : Box) where
   fair_bound : (tight : Box) (later : Option Settings) (lambda : ℕ) (rows : List Weight) → TightensTo case box tight → AreNamed case rows
       → ReachesCutoff case gap later box (record { lambda = lambda; rows = rows }) → IsFair case gap later box (root (bound lambda rows))
   fair_bound tight later lambda rows to named reaches = record {
-    right = record { names = names case (Line.Bound lambda) rows (λ row is. absurd (subst OnHair (sym is) tt)) named; asks = (tight, tight_of to, tt) };
+    right = record { names = names case (Line.Bound lambda) rows (λ row is. absurd (subst OnHair (sym is) tt)) named; asks = (tight, to, tt) };
     owes = reaches;
   }
 
   plain_fair : (tight : Box) (later : Option Settings) → TightensTo case box tight → PlainReaches case gap tight later → IsFair case gap later box (root (bound 1 []))
   plain_fair tight later to plain = fair_bound tight later 1 [] to (none_named case) (record {
     tight = tight;
-    is_tight = tight_of to;
+    is_tight = to;
     bound = plain.plain;
     gives = record { value = plain.exact.0; dual = plain.exact.1; exact = plain.exact.2 };
     reaches = plain.reaches;
@@ -85,11 +83,11 @@ module _ (case : Case) (gap : ℕ) (box : Box) where
   hair_fair tight issued later row to single first = record {
     right = record {
       names = names case (Line.Hair row) [] (λ r is. subst (λ (l : NodeLine). RowBelow (length (rows_in case)) l) is first.is_row) (none_named case);
-      asks = (tight, tight_of to, record { one_pickup = single.one; unmet = first.unmet });
+      asks = (tight, to, record { one_pickup = single.one; unmet = first.unmet });
     };
     owes = record {
       tight = tight;
-      is_tight = tight_of to;
+      is_tight = to;
       offer = single.offer;
       least = single.least;
       no_dearer = rw single.now (offer_covered case issued single.offer);
@@ -101,7 +99,7 @@ module _ (case : Case) (gap : ℕ) (box : Box) where
   void_fair tight later rows to is = record {
     right = record {
       names = names case Line.Void rows (λ row same. absurd (subst OnHair (sym same) tt)) is.usable.named;
-      asks = (tight, tight_of to, record { value = is.shows.value; dual = is.shows.dual; above = is.shows.above });
+      asks = (tight, to, record { value = is.shows.value; dual = is.shows.dual; above = is.shows.above });
     };
     owes = tt;
   }
@@ -109,7 +107,7 @@ module _ (case : Case) (gap : ℕ) (box : Box) where
   weighed_fair : (tight : Box) (later : Option Settings) (weights : LeafWeights) → TightensTo case box tight → ClosesBy case gap tight weights later → IsFair case gap later box (root (bound weights.lambda weights.rows))
   weighed_fair tight later weights to by = fair_bound tight later weights.lambda weights.rows to by.can.usable.named (record {
     tight = tight;
-    is_tight = tight_of to;
+    is_tight = to;
     bound = by.bound;
     gives = by.gives;
     reaches = by.reaches;
@@ -125,11 +123,11 @@ module _ (case : Case) (gap : ℕ) (box : Box) where
   split_fair tight issued later advised relay at below above fits to asked can = record {
     right = record {
       names = names case (Line.Split relay at) [] (λ row is. absurd (subst OnHair (sym is) tt)) (none_named case);
-      asks = (tight, tight_of to, record { relay_fits = omega (arith, found.2, (tight_fits case box tight fits (tight_of to)).pickups); can = can });
+      asks = (tight, to, record { relay_fits = omega (arith, found.2, (tight_fits case box tight fits to).pickups); can = can });
     };
     owes = record {
       tight = tight;
-      is_tight = tight_of to;
+      is_tight = to;
       offer = asked.second;
       least = asked.is_second;
       no_dearer = rw asked.now (offer_covered case (offered case issued asked.first) asked.second);
@@ -221,7 +219,7 @@ handled_fair case gap box own issued later tree fits named (divided {tight = tig
       is.lower,
       is.upper,
       split_fair case gap box tight issued later advised relay at (open_with low) (open_with high) fits to undecided.asked can,
-      record { tight = tight; is_tight = tight_of to; halves = is.halves },
+      record { tight = tight; is_tight = to; halves = is.halves },
       open_fair case gap is.lower later low (are.1.0.steps to.no_more.steps) (candidate_named case advised.weights own low is.used is.low_best.place named is.is_used is.low_best.stands),
       open_fair case gap is.upper later high (are.1.1.steps to.no_more.steps) (candidate_named case advised.weights own high is.used is.high_best.place named is.is_used is.high_best.stands),
     )

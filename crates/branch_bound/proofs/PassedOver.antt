@@ -18,7 +18,7 @@ use Rattle.margin_rows.specs.Margin.{MeetsStrictly}
 use Rattle.margin_rows.specs.Price.{cost_of, least_sum}
 use Rattle.margin_rows.proofs.Halved.{halves_are}
 use Rattle.margin_rows.proofs.LowestSettings.{same_pickups}
-use Rattle.box_range.specs.Drops.{MeetsAllLoosely}
+use Rattle.box_range.specs.Drops.{MeetsAllLoosely, TightensTo}
 use Rattle.box_range.proofs.Order.{drops_keep, none_left}
 use Rattle.box_range.proofs.TightLaws.{strict_is_loose}
 use Rattle.box_bound.specs.DualValue.{IsDualValue}
@@ -27,7 +27,6 @@ use Rattle.box_bound.proofs.BelowCosts.{bound_below_cost}
 use Rattle.box_bound.proofs.Duality.{rows_met, weak_duality}
 use Rattle.box_bound.proofs.LowestBounds.{costs_rise}
 use Rattle.cert_tree.specs.Endings.{has_open_leaf}
-use Rattle.cert_tree.specs.NodeRules.{IsTightBox}
 use Rattle.cert_tree.proofs.TightBoxes.{tight_fits, tight_only}
 use Rattle.cert_tree.proofs.TreeLaws.{can_split, halves_fit}
 use Rattle.step_rules.specs.Offers.{lowest_pickups}
@@ -37,7 +36,7 @@ module _ (case : Case) (gap : ℕ) (issued : Option Settings) (settings : Settin
   loose : MeetsAllLoosely case settings
   loose = strict_is_loose case settings limits inside met
 
-  in_tight : (box tight : Box) → IsTightBox case box tight → LiesIn box settings → LiesIn tight settings
+  in_tight : (box tight : Box) → TightensTo case box tight → LiesIn box settings → LiesIn tight settings
   in_tight box tight is lies = drops_keep case box tight settings is.led lies loose
 
   -- settings are issued that cost at most the gap more than these

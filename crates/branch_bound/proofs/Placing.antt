@@ -120,7 +120,7 @@ taken case gap issued later value (handling.Split relay at low high) number next
   (
     low.ranges,
     high.ranges,
-    record { tight = halves.tight; is_tight = record { led = halves.tightens.drops; no_more = halves.tightens.no_more }; halves = halves.halves },
+    record { tight = halves.tight; is_tight = halves.tightens; halves = halves.halves },
     (refl, refl, halves.low_open),
     (refl, refl, halves.high_open),
   ),

@@ -9,9 +9,10 @@ use Rattle.margin_rows.specs.Box.{Box, HasEmptySpan}
 use Rattle.margin_rows.specs.Case.{Case}
 use Rattle.margin_rows.specs.Least.{IsStrictLeast, IsStrictLeastOf}
 use Rattle.margin_rows.specs.Price.{cost_of}
+use Rattle.box_range.specs.Drops.{TightensTo}
 use Rattle.cert_tree.specs.Endings.{boxes}
 use Rattle.cert_tree.specs.Holding.{AreTightHalves}
-use Rattle.cert_tree.specs.NodeRules.{IsRight, IsTightBox}
+use Rattle.cert_tree.specs.NodeRules.{IsRight}
 use Rattle.step_rules.specs.Offers.{Reaches, lowest_pickups}
 use Rattle.step_rules.specs.Usable.{HasBound, LeafWeights}
 use Rattle.branch_bound.specs.Machine.{State}
@@ -36,7 +37,7 @@ AreNoDearer case before after =
 pub record ReachesCutoff (case : Case) (gap : ℕ) (issued : Option Settings) (box : Box)
     (weights : LeafWeights) : Type 0 where
   pub tight : Box
-  pub is_tight : IsTightBox case box tight
+  pub is_tight : TightensTo case box tight
   pub bound : ℕ
   pub gives : HasBound case tight weights bound
   pub reaches : Reaches case gap issued bound
@@ -45,7 +46,7 @@ pub record ReachesCutoff (case : Case) (gap : ℕ) (issued : Option Settings) (b
 -- issued
 pub record IsCovered (case : Case) (issued : Option Settings) (box : Box) : Type 0 where
   pub tight : Box
-  pub is_tight : IsTightBox case box tight
+  pub is_tight : TightensTo case box tight
   pub offer : Option Settings
   pub least : IsStrictLeastOf case (lowest_pickups tight) offer
   pub no_dearer : AreNoDearer case offer issued

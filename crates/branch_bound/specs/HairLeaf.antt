@@ -7,10 +7,9 @@ use Rattle.margin_rows.specs.Case.{Case, row_at, rows_in}
 use Rattle.margin_rows.specs.FirstBox.{IsInFirstBox}
 use Rattle.margin_rows.specs.Lowest.{lowest_of}
 use Rattle.margin_rows.specs.Margin.{MeetsStrictly}
-use Rattle.box_range.specs.Drops.{MeetsAllLoosely}
+use Rattle.box_range.specs.Drops.{MeetsAllLoosely, TightensTo}
 use Rattle.cert_tree.specs.Endings.{has_hair}
 use Rattle.cert_tree.specs.Holding.{AreTightHalves}
-use Rattle.cert_tree.specs.NodeRules.{IsTightBox}
 use Rattle.branch_bound.specs.declared.outcome.HairPlace.{HairPlace}
 
 -- the first hair leaf of the tree in pre-order has this row, and these are the lowest settings of
@@ -24,7 +23,7 @@ IsFirstHair case box empty row settings = ⊥
 IsFirstHair case box (void weights) row settings = ⊥
 IsFirstHair case box (bound lambda weights) row settings = ⊥
 IsFirstHair case box (hair leaf_row) row settings =
-    (leaf_row ≡ row) × ((tight : Box) × IsTightBox case box tight × (settings ≡ lowest_of tight))
+    (leaf_row ≡ row) × ((tight : Box) × TightensTo case box tight × (settings ≡ lowest_of tight))
 IsFirstHair case box (open_leaf lambda weights) row settings = ⊥
 
 -- the place is the first hair leaf of the tree: its settings lie in the first box, loosely meet

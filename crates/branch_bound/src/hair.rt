@@ -4,8 +4,9 @@ ghost use Rattle.coord_model.specs.Choice.{choice_data};
 ghost use Rattle.coord_model.specs.Tree.{shape};
 ghost use Rattle.margin_rows.specs.Box.{Box, FitsBox};
 ghost use Rattle.margin_rows.specs.Lowest.{lowest_of};
+ghost use Rattle.box_range.specs.Drops.{TightensTo};
 ghost use Rattle.cert_tree.specs.Endings.{has_hair};
-ghost use Rattle.cert_tree.specs.NodeRules.{IsRight, IsTightBox};
+ghost use Rattle.cert_tree.specs.NodeRules.{IsRight};
 ghost use Rattle.branch_bound.specs.Facts.{Every};
 ghost use Rattle.branch_bound.specs.HairLeaf.{IsFirstHair};
 
@@ -47,8 +48,8 @@ pub fn first_hair(
 /// The lowest settings of the tight box of a box, with a row.
 fn hair_at(inst: &Instance, ranges: Ranges, row: u16) -> Result<Option<HairPlace>, NoMemory>
     requires fits { FitsBox inst.now ranges }
-    requires tight { (tight : Box) × IsTightBox inst.now ranges tight }
-    ensures { IfOk result (λ found. IsSomeAnd found (λ place. (place.row ≡ row) × ((tight : Box) × IsTightBox inst.now ranges tight × (choice_data place.choice ≡ lowest_of tight)))) }
+    requires tight { (tight : Box) × TightensTo inst.now ranges tight }
+    ensures { IfOk result (λ found. IsSomeAnd found (λ place. (place.row ≡ row) × ((tight : Box) × TightensTo inst.now ranges tight × (choice_data place.choice ≡ lowest_of tight)))) }
 {
     let mut tight = ranges;
     let _ = tighten(inst, &mut tight);

@@ -10,9 +10,10 @@ use Rattle.cert_text.specs.CertData.{CertData, IsCert}
 use Rattle.cert_text.specs.declared.kinds.CertHead.{CertHead}
 use Rattle.cert_text.proofs.SameCerts.{same_cert}
 use Rattle.cert_tree.specs.Holding.{Fails, Holds}
+use Rattle.cert_tree.specs.declared.counts.Counts.{Counts}
 use Rattle.cert_tree.specs.declared.kind.NodeKind.{NodeKind}
 use Rattle.cert_tree.proofs.Proving.{holds_proves}
-use Rattle.cert_tree.proofs.WalkedTrees.{walk_due}
+use Rattle.cert_tree.proofs.WalkedTrees.{walk_counts, walk_due, walk_holds}
 use Rattle.cert_tree.proofs.TreeLaws.{holds_not_fails, holds_only}
 use Rattle.margin_rows.specs.Box.{Box, IsFirstBox}
 use Rattle.margin_rows.specs.Case.{Case, FitsCase}
@@ -29,7 +30,7 @@ use Rattle.cert_tree.specs.TreeWalks.{walk_at}
 use Rattle.cert_tree.specs.Walks.{Walk, Walked}
 use Rattle.cert_check.specs.Rightness.{HoldsWith, IsRight, IsTextOf}
 use Rattle.cert_check.specs.Claims.{Agrees}
-use Rattle.cert_check.specs.TreeGives.{found_of}
+use Rattle.cert_check.specs.TreeGives.{found_by, found_of}
 use Rattle.cert_check.proofs.WholeCerts.{leaves_fit}
 
 -- bytes are the text of one certificate
@@ -66,15 +67,19 @@ pub record Given (case : Case) (cert : CertData) (walk : Walk) (found : Found) :
   pub holds : HoldsWith case cert walk.bound
   pub found_is : found ≡ found_of cert.tree walk.bound cert.head
 
+-- what is found of a walk over the nodes of a tree is what the tree gives
+pub walk_found : (case : Case) (box : Box) (tree : Tree) (walk : Walk) (head : CertHead) (found : Found) → found ≡ found_by walk.counts walk.bound head
+    → Walked case (walk_at box) (nodes_of tree) walk → found ≡ found_of tree walk.bound head
+walk_found case box tree walk head found is walked = is ∙ ap (λ (k : Counts). found_by k walk.bound head) (walk_counts case box tree walk walked)
+
 pub given : (case : Case) (check : LineCheck) (bytes : List ℕ) (saw : SawCert case check bytes) (head : CertHead) (found : Found) → check.nodes.fault ≡ None → head ≡ saw.cert.head
-    → ((c : Case) (box : Box) (tree : Tree) → Walked c (walk_at box) (nodes_of tree) check.nodes.walk → Holds c box tree check.nodes.walk.bound × (found ≡ found_of tree check.nodes.walk.bound head))
+    → ((c : Case) (box : Box) (tree : Tree) → Walked c (walk_at box) (nodes_of tree) check.nodes.walk → found ≡ found_of tree check.nodes.walk.bound head)
     → Given case saw.cert check.nodes.walk found
-given case check bytes saw head found none is_head tree =
+given case check bytes saw head found none is_head gives =
     let walked = subst (λ (f : Option NodeFault). Saw case saw.box check.nodes.walk f (nodes_of saw.cert.tree)) none saw.saw in
-    let gives = tree case saw.box saw.cert.tree walked.0 in
     record {
-      holds = record { box = saw.box; first = saw.first; holds = gives.0 };
-      found_is = gives.1 ∙ ap (λ (h : CertHead). found_of saw.cert.tree check.nodes.walk.bound h) is_head;
+      holds = record { box = saw.box; first = saw.first; holds = walk_holds case saw.box saw.cert.tree check.nodes.walk walked.0 };
+      found_is = gives case saw.box saw.cert.tree walked.0 ∙ ap (λ (h : CertHead). found_of saw.cert.tree check.nodes.walk.bound h) is_head;
     }
 
 -- nothing is due after the nodes of a certificate

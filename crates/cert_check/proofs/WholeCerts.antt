@@ -43,6 +43,7 @@ saw_cert case check bytes ends =
     record {
       cert = whole.cert;
       text = record { is = whole.is; text = ends.text ∙ ap text_of whole.text };
+      last = ends.last;
       head = whole.head;
       settings = whole.settings;
       box = goes.box;

@@ -23,6 +23,7 @@ pub record EndsWhole (case : Case) (check : LineCheck) (bytes : List ℕ) : Type
 pub record SawCert (case : Case) (check : LineCheck) (bytes : List ℕ) : Type 0 where
   pub cert : CertData
   pub text : IsTextOf cert bytes
+  pub last : check.scan.due ≡ kind.After
   pub head : check.scan.head ≡ cert.head
   pub settings : settings_with check.scan.head.cost check.scan.choice ≡ cert.settings
   pub box : Box

@@ -20,8 +20,3 @@ pub use claim::{Claim, check_claim, study_head};
 pub use found::{Found, found_in};
 pub use kind::ClaimKind;
 pub use refusal::CheckRefusal;
-
-#[cfg(test)]
-mod file_tests;
-#[cfg(test)]
-mod tests;

@@ -15,11 +15,6 @@ use Rattle.cert_text.specs.Scanning.{Begins}
 use Rattle.cert_text.specs.declared.kinds.CertHead.{CertHead}
 use Rattle.cert_text.specs.declared.kinds.CertKind.TheVariants as kind
 
--- one more line behind those of a front
-pub one_more : (front xs lines : List (List ℕ)) (line spelled : List ℕ) → lines ≡ front ++ xs → line ≡ spelled → lines ++ line ∷ [] ≡ front ++ (xs ++ spelled ∷ [])
-one_more front xs lines line spelled before is =
-    ap (λ l. l ++ line ∷ []) before ∙ append_assoc front xs (line ∷ []) ∙ ap (λ l. front ++ (xs ++ l ∷ [])) is
-
 -- the lines after those of the opening
 abbrev pub tail_lines : CertData → List (List ℕ)
 tail_lines cert = settings_line cert.settings ∷ (map node_line (nodes_of cert.tree) ++ codes "end" ∷ [])
@@ -56,26 +51,12 @@ body_is head xs lines line before b =
     same_behind b.cert.head.study head.study (body_lines b.cert) (xs ++ line ∷ b.more)
     (sym (lines_are b.cert) ∙ b.parts ∙ append_assoc lines (line ∷ []) b.more ∙ ap (λ l. l ++ line ∷ b.more) before ∙ append_assoc (opening head.study) xs (line ∷ b.more))
 
--- the first line
-pub format_stops : (line : List ℕ) → line ≢ codes "coord-certificate 1" → line ≢ codes "coord-certificate 2" → (lines : List (List ℕ)) → lines ≡ [] → ¬ Begins (lines ++ line ∷ [])
-format_stops line first second lines none b = by_study b.cert.head.study (sym (lines_are b.cert) ∙ b.parts ∙ ap (λ l. (l ++ line ∷ []) ++ b.more) none)
-  where
-    by_study : (s : Option StudyHead) → opening s ++ body_lines b.cert ≡ line ∷ b.more → ⊥
-    by_study None is = first (cc is)
-    by_study (Some s) is = second (cc is)
-
 -- the line of the ending
 pub ending_stops : (head : CertHead) (line : List ℕ) → ((ending : Ending) → line ≢ ending_line ending) → (lines : List (List ℕ)) → lines ≡ opening head.study
     → ¬ Begins (lines ++ line ∷ [])
 ending_stops head line none lines before b =
     let body = body_is head [] lines line (before ∙ sym (append-nil (opening head.study))) b in
     none b.cert.head.ending (cc body)
-
-pub gap_stops : (head : CertHead) (line : List ℕ) → ((n : ℕ) → 1 ≤ n → n ≤ 10 ^ 12 → line ≢ gap_line n) → (lines : List (List ℕ)) → HeadTo kind.Gap lines head
-    → ¬ Begins (lines ++ line ∷ [])
-gap_stops head line none lines to b =
-    let body = body_is head (ending_line head.ending ∷ []) lines line to.parts b in
-    none b.cert.head.gap b.is.head.gap.0 b.is.head.gap.1 (cc body)
 
 -- lines of endings have one ending
 same_ending_line : (e f : Ending) → ending_line e ≡ ending_line f → e ≡ f

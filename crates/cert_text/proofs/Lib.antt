@@ -6,6 +6,7 @@ pub mod Forests
 pub mod GrownTrees
 pub mod HeadSteps
 pub mod LineLengths
+pub mod CertLengths
 pub mod NodeSteps
 pub mod PairWords
 pub mod Printed

@@ -1,12 +1,12 @@
 -- The lines and the text of a certificate (ours): its head, its settings, its nodes in pre-order, and `end`.
-use Rattle.std.specs.Prelude.{ℕ, Option, Some, None, List, [], ◌∷◌, ◌++◌, codes, map}
+use Rattle.std.specs.Prelude.{ℕ, ◌≤◌, Option, Some, None, List, [], ◌∷◌, ◌++◌, codes, length, map}
 use Rattle.std.specs.Fmt.{decimal}
 use Rattle.coord_model.specs.Choice.{Settings}
 use Rattle.coord_model.specs.Tree.{nodes_of}
 use Rattle.coord_model.specs.declared.choice.Ending.{Ending}
 use Rattle.coord_model.specs.declared.cert.StudyHead.{StudyHead}
 use Rattle.coord_text.specs.Claims.{amount, ending_word, text_of}
-use Rattle.cert_text.specs.CertData.{CertData}
+use Rattle.cert_text.specs.CertData.{CertData, IsCert}
 use Rattle.cert_text.specs.Nodes.{node_line, pair_word}
 use Rattle.cert_text.specs.declared.kinds.CertHead.{CertHead}
 
@@ -62,3 +62,7 @@ cert_lines cert =
 
 abbrev pub cert_text : CertData → List ℕ
 cert_text cert = text_of (cert_lines cert)
+
+-- the text of each certificate has at most 512 MiB
+abbrev pub TextsFit : Type 0
+TextsFit = (cert : CertData) → IsCert cert → length (cert_text cert) ≤ 536870912

@@ -23,9 +23,4 @@ pub use printer::CertPrinter;
 pub use reading::read_cert;
 pub use refusal::CertRefusal;
 pub use scan::CertScan;
-pub use text::cert_bytes;
-
-#[cfg(test)]
-mod tests;
-#[cfg(test)]
-mod text_tests;
+pub use text::{cert_bytes, each_text_fits};

@@ -4,7 +4,7 @@ ghost use Rattle.std.specs.Option.{option_map};
 ghost use Rattle.coord_model.specs.Choice.{choice_data};
 ghost use Rattle.cert_text.specs.DueNodes.{stack};
 ghost use Rattle.cert_text.specs.ScanState.{Follows, IsItem, settings_with, state_of, weights_of};
-ghost use Rattle.cert_text.specs.HeadScan.{HeadTo, IsHeadKind};
+ghost use Rattle.cert_text.specs.HeadScan.{HeadTo, IsFront, IsHeadKind};
 ghost use Rattle.cert_text.specs.Scanning.{Begins, NodesTo, Reached};
 ghost use Rattle.cert_text.specs.declared.kinds.CertKind.TheVariants as kind;
 
@@ -74,8 +74,9 @@ impl CertScan {
         &self.head
     }
 
-    /// The settings, if the line of the settings was taken and has some.
+    /// The settings, if their line has some. That line was taken.
     pub fn choice(&self) -> Option<&Choice>
+        requires taken { ¬ (IsFront self.now.due) }
         ensures { option_map (λ choice. choice_data choice.now) result ≡ settings_with self.now.head.cost self.now.choice }
     {
         match self.head.cost {

@@ -6,7 +6,7 @@ ghost use Rattle.coord_model.specs.Choice.{choice_data};
 ghost use Rattle.coord_model.specs.Tree.{nodes_of, root, shape};
 ghost use Rattle.coord_text.specs.Claims.{amount, ended, text_of};
 ghost use Rattle.cert_text.specs.CertData.{AreSettings, CertData, IsCert, cert_data, head_of};
-ghost use Rattle.cert_text.specs.CertText.{cert_text, head_lines, opening, settings_line, step_words, study_line};
+ghost use Rattle.cert_text.specs.CertText.{TextsFit, cert_text, head_lines, opening, settings_line, step_words, study_line};
 ghost use Rattle.cert_text.specs.Printing.{first_line, study_words};
 ghost use Rattle.cert_text.specs.Nodes.{node_line, pair_word, weight_words};
 
@@ -19,9 +19,16 @@ pub fn cert_bytes(alloc: Global, cert: &Cert) -> Result<Vec<u8>, NoMemory>
     requires { IsCert (cert_data cert.now) }
     ensures text { IfOk result (λ bytes. bytes.items ≡ cert_text (cert_data cert.now)) }
     ensures only { IfOk result (λ bytes. (other : CertData) → IsCert other → bytes.items ≡ cert_text other → cert_data cert.now ≡ other) }
+    ensures fits { IfOk result (λ bytes. length bytes.items ≤ 536870912) }
 {
     whole_text(alloc, cert)
 }
+
+/// The text of each certificate has at most 512 MiB: 400,001 lines of nodes and ten others, each of at most 1,037 bytes
+/// with its line feed.
+pub fn each_text_fits()
+    ensures { TextsFit }
+{}
 
 /// The text of a certificate.
 fn whole_text(alloc: Global, cert: &Cert) -> Result<Vec<u8>, NoMemory>

@@ -19,7 +19,7 @@ use Rattle.margin_rows.specs.Within.{span_of, with_pickup}
 use Rattle.margin_rows.specs.declared.span.Steps.{Steps}
 use Rattle.margin_rows.proofs.Places.{and_some, some_and}
 use Rattle.margin_rows.proofs.Within.{each_some, some_each}
-use Rattle.box_range.specs.Drops.{IsEmptied}
+use Rattle.box_range.specs.Drops.{IsEmptied, TightensTo}
 use Rattle.box_bound.specs.DualValue.{IsDualValue}
 use Rattle.box_bound.specs.LowerBound.{bound_at}
 use Rattle.box_bound.proofs.DualValues.{dual_value_of}
@@ -27,7 +27,7 @@ use Rattle.box_bound.proofs.Values.{value_only}
 use Rattle.cert_tree.specs.Holding.{AreTightHalves, Holds, at_split, below_high, below_low, here, lower}
 use Rattle.cert_tree.specs.Judgement.{IsRightWith, single}
 use Rattle.cert_tree.specs.NodeFaults.{IsFirstWrong}
-use Rattle.cert_tree.specs.NodeRules.{IsTightBox, NamesRows}
+use Rattle.cert_tree.specs.NodeRules.{NamesRows}
 use Rattle.cert_tree.specs.Verdict.{IsDecided}
 use Rattle.cert_tree.specs.declared.kind.NodeKind.{NodeKind}
 use Rattle.cert_tree.specs.declared.kind.NodeKind.TheVariants.{RowNumber, SplitRelay, NotEmpty, Emptied, NotVoid, ManyPickups, NotHair, SplitAt}
@@ -111,10 +111,10 @@ module _ (case : Case) (box : Box) (ws : List Weight) where
   split_emptied relay at named below gone = search rules
 
   not_split : (relay at : ℕ) → NamesRows case (single (Split relay at) ws) → relay < length case.study.relays → (IsEmptied case box → ⊥)
-      → ((tight : Box) → IsTightBox case box tight → CanSplit tight relay at → ⊥) → IsFirstWrong case box (single (Split relay at) ws) SplitAt
+      → ((tight : Box) → TightensTo case box tight → CanSplit tight relay at → ⊥) → IsFirstWrong case box (single (Split relay at) ws) SplitAt
   not_split relay at named below there none = search rules
 
-  no_split : (tight : Box) (relay at : ℕ) → NamesRows case (single (Split relay at) ws) → relay < length case.study.relays → IsTightBox case box tight → (CanSplit tight relay at → ⊥)
+  no_split : (tight : Box) (relay at : ℕ) → NamesRows case (single (Split relay at) ws) → relay < length case.study.relays → TightensTo case box tight → (CanSplit tight relay at → ⊥)
       → IsFirstWrong case box (single (Split relay at) ws) SplitAt
   no_split tight relay at named below is none =
       not_split relay at named below (tight_or_emptied case box tight is) (λ other at_other. subst (λ (b : Box). CanSplit b relay at → ⊥) (tight_only case box tight other is at_other) none)
@@ -131,19 +131,19 @@ module _ (case : Case) (box : Box) (ws : List Weight) where
   hair_emptied : (row : ℕ) → NamesRows case (single (Hair row) ws) → IsEmptied case box → IsFirstWrong case box (single (Hair row) ws) Emptied
   hair_emptied row named gone = search rules
 
-  not_one : (row : ℕ) → NamesRows case (single (Hair row) ws) → (IsEmptied case box → ⊥) → ((tight : Box) → IsTightBox case box tight → HasOnePickup tight → ⊥)
+  not_one : (row : ℕ) → NamesRows case (single (Hair row) ws) → (IsEmptied case box → ⊥) → ((tight : Box) → TightensTo case box tight → HasOnePickup tight → ⊥)
       → IsFirstWrong case box (single (Hair row) ws) ManyPickups
   not_one row named there many = search rules
 
-  many_pickups : (tight : Box) (row : ℕ) → NamesRows case (single (Hair row) ws) → IsTightBox case box tight → (HasOnePickup tight → ⊥) → IsFirstWrong case box (single (Hair row) ws) ManyPickups
+  many_pickups : (tight : Box) (row : ℕ) → NamesRows case (single (Hair row) ws) → TightensTo case box tight → (HasOnePickup tight → ⊥) → IsFirstWrong case box (single (Hair row) ws) ManyPickups
   many_pickups tight row named is many =
       not_one row named (tight_or_emptied case box tight is) (λ other at_other. subst (λ (b : Box). HasOnePickup b → ⊥) (tight_only case box tight other is at_other) many)
 
-  not_hair : (tight : Box) (row : ℕ) → NamesRows case (single (Hair row) ws) → (IsEmptied case box → ⊥) → IsTightBox case box tight → HasOnePickup tight
-      → ((other : Box) → IsTightBox case box other → MeetsStrictly case (lowest_of other) (row_at case row)) → IsFirstWrong case box (single (Hair row) ws) NotHair
+  not_hair : (tight : Box) (row : ℕ) → NamesRows case (single (Hair row) ws) → (IsEmptied case box → ⊥) → TightensTo case box tight → HasOnePickup tight
+      → ((other : Box) → TightensTo case box other → MeetsStrictly case (lowest_of other) (row_at case row)) → IsFirstWrong case box (single (Hair row) ws) NotHair
   not_hair tight row named there is one meets = search rules
 
-  no_hair : (tight : Box) (row : ℕ) → NamesRows case (single (Hair row) ws) → IsTightBox case box tight → HasOnePickup tight → MeetsStrictly case (lowest_of tight) (row_at case row)
+  no_hair : (tight : Box) (row : ℕ) → NamesRows case (single (Hair row) ws) → TightensTo case box tight → HasOnePickup tight → MeetsStrictly case (lowest_of tight) (row_at case row)
       → IsFirstWrong case box (single (Hair row) ws) NotHair
   no_hair tight row named is one meets =
       not_hair tight row named (tight_or_emptied case box tight is) is one
@@ -153,7 +153,7 @@ module _ (case : Case) (box : Box) (ws : List Weight) where
   open_emptied lambda named gone = search rules
 
 module _ (case : Case) (box : Box) (limits : FitsCase case) (fits : FitsBox case box) (ws : List Weight) where
-  value_of : (tight : Box) (lambda : ℕ) (weights : List Weight) → IsTightBox case box tight → (value : ℤ) × IsDualValue case tight lambda weights value
+  value_of : (tight : Box) (lambda : ℕ) (weights : List Weight) → TightensTo case box tight → (value : ℤ) × IsDualValue case tight lambda weights value
   value_of tight lambda weights is =
       let fit = tight_fits case box tight fits is in
       dual_value_of case lambda weights tight fit.pickups fit.dials is.no_more.steps
@@ -255,7 +255,7 @@ module _ (case : Case) (box : Box) (limits : FitsCase case) (fits : FitsBox case
   ]
 
 -- the halves of a box that can be split
-halves_at : (case : Case) (box tight : Box) (relay at : ℕ) → IsTightBox case box tight → CanSplit tight relay at → (low : Box) × (high : Box) × AreTightHalves case box relay at low high
+halves_at : (case : Case) (box tight : Box) (relay at : ℕ) → TightensTo case box tight → CanSplit tight relay at → (low : Box) × (high : Box) × AreTightHalves case box relay at low high
 halves_at case box tight relay at is can =
     let found = some_and (slice_get tight.pickup relay) (λ span. HasNext span at) can in
     let low = with_pickup tight relay (up_to found.0 at) in

@@ -6,6 +6,7 @@ pub mod Splits
 pub mod Rooms
 pub mod WalkLaws
 pub mod WalkedTrees
+pub mod TreesPassed
 pub mod TreeTaking
 pub mod BoxCounts
 pub mod TightOrEmptied

@@ -10,15 +10,16 @@ use Rattle.margin_rows.specs.Box.{Box, HasEmptySpan, HasNoEmptySpan, IsEmpty}
 use Rattle.margin_rows.specs.Case.{Case}
 use Rattle.margin_rows.proofs.Placed.{of_some}
 use Rattle.margin_rows.proofs.Places.{some_and}
+use Rattle.box_range.specs.Drops.{TightensTo}
 use Rattle.cert_tree.specs.Judgement.{single}
 use Rattle.cert_tree.specs.NodeFaults.{IsClosing, IsFirstWrong, IsWrong, rank}
-use Rattle.cert_tree.specs.NodeRules.{Asks, IsRight, IsTightBox, IsVoid, NamesRows}
+use Rattle.cert_tree.specs.NodeRules.{Asks, IsRight, IsVoid, NamesRows}
 use Rattle.cert_tree.specs.declared.kind.NodeKind.{NodeKind}
 use Rattle.cert_tree.specs.declared.kind.NodeKind.TheVariants.{RowNumber, SplitRelay, NotEmpty, Emptied, NotVoid, ManyPickups, NotHair, SplitAt}
 use Rattle.cert_tree.proofs.TightBoxes.{tight_only, tight_or_emptied}
 
 -- the first wrong of a `Void` whose dual value is not above 0
-pub not_void : (case : Case) (box tight : Box) (ws : List Weight) → NamesRows case (single Void ws) → IsTightBox case box tight
+pub not_void : (case : Case) (box tight : Box) (ws : List Weight) → NamesRows case (single Void ws) → TightensTo case box tight
     → (IsVoid case tight (single Void ws) → ⊥) → IsFirstWrong case box (single Void ws) NotVoid
 not_void case box tight ws names is none = record {
   wrong = (refl, λ other at. subst (λ (b : Box). IsVoid case b (single Void ws) → ⊥) (tight_only case box tight other is at) none);
@@ -46,7 +47,7 @@ not_empty box steps (inr gone) =
     omega (arith, at.2, of_some (slice_get box.dial gone.0) (λ span. span.low < span.past) at.0 at.1 (steps.dial gone.0))
 
 -- a closing node or a split that is right has a tight box
-asks_tight : (case : Case) (box : Box) (node : Single) (line : NodeLine) → IsClosing line → Asks case box node line → (tight : Box) × IsTightBox case box tight
+asks_tight : (case : Case) (box : Box) (node : Single) (line : NodeLine) → IsClosing line → Asks case box node line → (tight : Box) × TightensTo case box tight
 asks_tight case box node (Split relay at) closing asks = (asks.0, asks.1)
 asks_tight case box node Empty closing asks = absurd closing
 asks_tight case box node Void closing asks = (asks.0, asks.1)

@@ -13,14 +13,13 @@ use Rattle.margin_rows.specs.Case.{Case, FitsCase}
 use Rattle.margin_rows.specs.Price.{least_sum}
 use Rattle.margin_rows.proofs.Boxed.{allowed_meets}
 use Rattle.margin_rows.proofs.Halved.{halves_are}
-use Rattle.box_range.specs.Drops.{MeetsAllLoosely}
+use Rattle.box_range.specs.Drops.{MeetsAllLoosely, TightensTo}
 use Rattle.box_range.proofs.Order.{drops_keep, none_left}
 use Rattle.box_bound.specs.DualValue.{IsDualValue}
 use Rattle.box_bound.specs.Weighing.{FitWeights}
 use Rattle.box_bound.proofs.Duality.{bound_costs, rows_met, weak_duality}
 use Rattle.cert_tree.specs.Holding.{Holds, lower}
 use Rattle.cert_tree.specs.Judgement.{IsDualBound}
-use Rattle.cert_tree.specs.NodeRules.{IsTightBox}
 use Rattle.cert_tree.specs.Proving.{IsProved}
 use Rattle.cert_tree.proofs.TightBoxes.{tight_fits}
 use Rattle.cert_tree.proofs.TreeLaws.{can_split, halves_fit, parts}
@@ -59,7 +58,7 @@ lower_shows case settings (Some a) (Some b) (inl shown) = costs_less case settin
 lower_shows case settings (Some a) (Some b) (inr shown) = costs_less case settings (min a b) b (omega arith) shown
 
 module _ (case : Case) (settings : Settings) (limits : FitsCase case) (met : MeetsAllLoosely case settings) where
-  in_tight : (box tight : Box) → IsTightBox case box tight → LiesIn box settings → LiesIn tight settings
+  in_tight : (box tight : Box) → TightensTo case box tight → LiesIn box settings → LiesIn tight settings
   in_tight box tight is lies = drops_keep case box tight settings is.led lies met
 
   -- a tree that holds shows its bound of settings that loosely meet every row

@@ -10,10 +10,10 @@ use Rattle.margin_rows.specs.Box.{Box, FitsBox}
 use Rattle.margin_rows.specs.Case.{Case}
 use Rattle.margin_rows.specs.Halves.{AreHalves, CanSplit}
 use Rattle.margin_rows.specs.Within.{IsWithin}
+use Rattle.box_range.specs.Drops.{TightensTo}
 use Rattle.coord_model.specs.Tree.{empty}
 use Rattle.coord_model.specs.declared.weights.Weight.{Weight}
 use Rattle.cert_tree.specs.Judgement.{IsRightWith, single}
-use Rattle.cert_tree.specs.NodeRules.{IsTightBox}
 use Rattle.cert_tree.proofs.Splits.{can_split_some, narrowed_places, places_after, within_splits}
 use Rattle.cert_tree.proofs.TightBoxes.{tight_only}
 use Rattle.cert_tree.proofs.TreeLaws.{halves_fit}
@@ -59,21 +59,21 @@ placed_alike room front back first low high alike is_front is_back spans =
 
 module _ (case : Case) (room : List Box) (first : ℕ) (found new : Box) (ws : List Weight) (given : Option ℕ) (below : first < length room) where
   -- a split that was right at the first due box can be made where that is tightened
-  pub can_cut : (relay at : ℕ) → IsRightWith case (get_or room first found) (single (Split relay at) ws) given → IsTightBox case (get_or room first found) new
+  pub can_cut : (relay at : ℕ) → IsRightWith case (get_or room first found) (single (Split relay at) ws) given → TightensTo case (get_or room first found) new
       → CanSplit (box_at (set room first new) first) relay at
   can_cut relay at is tight =
       let here = tight_only case (get_or room first found) is.right.asks.0 new is.right.asks.1 tight in
       rw (get_or-set_same room first new no_box below) (subst (λ (b : Box). CanSplit b relay at) here is.right.asks.2.can)
 
   -- the halves of a first due box that was tightened are due after it
-  pub due_halves : (relay at : ℕ) (low high : Box) (later : List Box) → IsTightBox case (get_or room first found) new → AreHalves (box_at (set room first new) first) relay at low high
+  pub due_halves : (relay at : ℕ) (low high : Box) (later : List Box) → TightensTo case (get_or room first found) new → AreHalves (box_at (set room first new) first) relay at low high
       → later ≡ low ∷ high ∷ drop (first + 1) (set room first new) → AreDueAfter case (box_at room first) (drop (first + 1) room) (Split relay at) later
   due_halves relay at low high later tight halves is = (
     low,
     high,
     record {
       tight = new;
-      is_tight = subst (λ (b : Box). IsTightBox case b new) (get_or_default room first found no_box below) tight;
+      is_tight = subst (λ (b : Box). TightensTo case b new) (get_or_default room first found no_box below) tight;
       halves = rw (get_or-set_same room first new no_box below) at halves;
     },
     is ∙ ap (λ (xs : List Box). low ∷ high ∷ xs) (drop-set-lt (first + 1) room first new (omega arith)),

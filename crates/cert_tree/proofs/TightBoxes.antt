@@ -7,20 +7,19 @@ use Rattle.margin_rows.specs.Halves.{AreHalves, CanSplit, HasNext, above, up_to}
 use Rattle.margin_rows.specs.Within.{with_pickup}
 use Rattle.margin_rows.proofs.Places.{some_and}
 use Rattle.margin_rows.proofs.Within.{fits_within}
-use Rattle.box_range.specs.Drops.{IsEmptied}
+use Rattle.box_range.specs.Drops.{IsEmptied, TightensTo}
 use Rattle.box_range.proofs.Order.{drops_within, one_tight, tight_not_emptied}
-use Rattle.cert_tree.specs.NodeRules.{IsTightBox}
 
 -- a box has at most one tight box
-pub tight_only : (case : Case) (box a b : Box) → IsTightBox case box a → IsTightBox case box b → a ≡ b
+pub tight_only : (case : Case) (box a b : Box) → TightensTo case box a → TightensTo case box b → a ≡ b
 tight_only case box a b x y = one_tight case box a b x.led x.no_more y.led y.no_more
 
 -- and none if it is emptied
-pub tight_or_emptied : (case : Case) (box tight : Box) → IsTightBox case box tight → IsEmptied case box → ⊥
+pub tight_or_emptied : (case : Case) (box tight : Box) → TightensTo case box tight → IsEmptied case box → ⊥
 tight_or_emptied case box tight is gone = tight_not_emptied case box tight gone.end is.led is.no_more gone.drops gone.empty
 
 -- the tight box of a box that fits fits too
-pub tight_fits : (case : Case) (box tight : Box) → FitsBox case box → IsTightBox case box tight → FitsBox case tight
+pub tight_fits : (case : Case) (box tight : Box) → FitsBox case box → TightensTo case box tight → FitsBox case tight
 tight_fits case box tight fits is = fits_within case tight box (drops_within case box tight is.led) fits
 
 -- a box has one low half and one high half at a step

@@ -10,7 +10,7 @@ use Rattle.margin_rows.specs.Case.{Case, FitsCase, row_at, rows_in}
 use Rattle.margin_rows.specs.declared.span.Steps.{Steps}
 use Rattle.margin_rows.proofs.Listed.{at_number}
 use Rattle.margin_rows.proofs.Within.{fits_within}
-use Rattle.box_range.specs.Drops.{Drop, IsEmptied, dropped, next, none}
+use Rattle.box_range.specs.Drops.{Drop, IsEmptied, TightensTo, dropped, next, none}
 use Rattle.box_range.specs.Kinds.{Side, highest, lowest, span_at, spans_of, with_span, without_end}
 use Rattle.box_range.specs.Meeting.{HasRelays, IsMeetable, MeetsWith, best_steps, with_step}
 use Rattle.box_range.specs.Rounds.{AreSettled}
@@ -25,7 +25,6 @@ use Rattle.box_range.proofs.Order.{drop_within}
 use Rattle.box_range.proofs.Places.{asks_backup, asks_primary, relay_counts}
 use Rattle.box_range.proofs.Spans.{has_empty, has_span, has_steps, span_has, steps_have}
 use Rattle.box_range.proofs.Tight.{tight_of}
-use Rattle.cert_tree.specs.NodeRules.{IsTightBox}
 
 -- a number is at most another, or it is not
 pub le_or : (a b : ℕ) → (a ≤ b) ⊎ (a ≤ b → ⊥)
@@ -180,7 +179,7 @@ module _ (case : Case) (limits : FitsCase case) where
         | inr found ↦ inr found.2
       ]
 
-  ended : (n : ℕ) (box : Box) → FitsBox case box → size box < n → IsEmptied case box ⊎ ((tight : Box) × IsTightBox case box tight)
+  ended : (n : ℕ) (box : Box) → FitsBox case box → size box < n → IsEmptied case box ⊎ ((tight : Box) × TightensTo case box tight)
   ended zero box fits few = absurd (omega (arith, few))
   ended (suc n) box fits few = elim (empty_or box) [
     | inl empty ↦ inl (record { end = box; drops = none; empty = empty })
@@ -194,5 +193,5 @@ module _ (case : Case) (limits : FitsCase case) where
   ]
 
   -- a box that fits is emptied, or has a tight box
-  pub emptied_or_tight : (box : Box) → FitsBox case box → IsEmptied case box ⊎ ((tight : Box) × IsTightBox case box tight)
+  pub emptied_or_tight : (box : Box) → FitsBox case box → IsEmptied case box ⊎ ((tight : Box) × TightensTo case box tight)
   emptied_or_tight box fits = ended (suc (size box)) box fits (omega arith)

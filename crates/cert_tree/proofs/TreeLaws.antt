@@ -9,12 +9,13 @@ use Rattle.margin_rows.specs.Box.{Box, FitsBox, HasNoEmptySpan}
 use Rattle.margin_rows.specs.Case.{Case}
 use Rattle.margin_rows.specs.Halves.{AreHalves, CanSplit}
 use Rattle.margin_rows.proofs.Halved.{halves_are}
+use Rattle.box_range.specs.Drops.{TightensTo}
 use Rattle.box_bound.specs.LowerBound.{bound_at, IsPlainBound}
 use Rattle.box_bound.proofs.Values.{value_only}
 use Rattle.cert_tree.specs.Holding.{AreTightHalves, Fails, Holds, at_bound, at_empty, at_hair, at_open_leaf, at_split, at_void, below_high, below_low, here, lower}
 use Rattle.cert_tree.specs.Judgement.{Gives, IsDualBound}
 use Rattle.cert_tree.specs.NodeFaults.{IsFirstWrong}
-use Rattle.cert_tree.specs.NodeRules.{Asks, IsRight, IsTightBox}
+use Rattle.cert_tree.specs.NodeRules.{Asks, IsRight}
 use Rattle.cert_tree.specs.declared.kind.NodeKind.{NodeKind}
 use Rattle.cert_tree.proofs.NodeLaws.{first_only, right_not_wrong}
 use Rattle.cert_tree.proofs.TightBoxes.{halves_only, tight_fits, tight_only}
@@ -95,7 +96,7 @@ fail_parts case box tree number kind (below_low {low = low} {high = high} {numbe
 fail_parts case box tree number kind (below_high {low = low} {high = high} {number = more} {a = a} right halves holds fails) = in_high low high a more right halves holds fails refl
 
 -- the tight box of a split that is right can be split there
-pub can_split : (case : Case) (box tight : Box) (relay at : ℕ) (below above : Tree) → IsRight case box (root (split relay at below above)) → IsTightBox case box tight → CanSplit tight relay at
+pub can_split : (case : Case) (box tight : Box) (relay at : ℕ) (below above : Tree) → IsRight case box (root (split relay at below above)) → TightensTo case box tight → CanSplit tight relay at
 can_split case box tight relay at below above right is =
     subst (λ (b : Box). CanSplit b relay at) (tight_only case box right.asks.0 tight right.asks.1 is) right.asks.2.can
 

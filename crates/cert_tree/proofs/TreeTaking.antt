@@ -51,7 +51,7 @@ module _ (case : Case) (before mid : Walk) (relay at : ℕ) (below above : Tree)
     pub due_between : length half.due ≡ length before.due
     due_between =
         let past = walked_tree case below takes.due.0 (takes.due.1 ∷ takes.others) mid half takes.due.3 low in
-        let now : length half.due ≡ suc (length takes.others) = ap (λ (xs : List Box). length xs) past.due ∙ omega arith in
+        let now : length half.due ≡ suc (length takes.others) = ap (λ (w : Walk). length w.due) past.2 ∙ omega arith in
         let was : length before.due ≡ suc (length takes.others) = ap (λ (xs : List Box). length xs) takes.first ∙ omega arith in
         omega (arith, now, was)
 

@@ -5,10 +5,11 @@ use Rattle.coord_model.specs.declared.weights.Weight.{Weight}
 use Rattle.margin_rows.specs.Box.{Box}
 use Rattle.margin_rows.specs.Case.{Case}
 use Rattle.margin_rows.specs.Halves.{AreHalves}
+use Rattle.box_range.specs.Drops.{TightensTo}
 use Rattle.box_bound.specs.DualValue.{IsDualValue}
 use Rattle.box_bound.specs.LowerBound.{bound_at, IsPlainBound}
 use Rattle.cert_tree.specs.NodeFaults.{IsFirstWrong}
-use Rattle.cert_tree.specs.NodeRules.{IsTightBox, IsRight}
+use Rattle.cert_tree.specs.NodeRules.{IsRight}
 use Rattle.cert_tree.specs.declared.kind.NodeKind.{NodeKind}
 
 -- the lower of two bounds, if there are any
@@ -20,7 +21,7 @@ lower (Some a) (Some b) = Some (min a b)
 -- the boxes are the two halves of the tight box of a box
 pub record AreTightHalves (case : Case) (box : Box) (relay at : ℕ) (low high : Box) : Type 0 where
   pub tight : Box
-  pub is_tight : IsTightBox case box tight
+  pub is_tight : TightensTo case box tight
   pub halves : AreHalves tight relay at low high
 
 -- the tree holds at the box: no node is wrong at its own; a split gives those below it the halves of its tight box.
@@ -35,10 +36,10 @@ pub data Holds (case : Case) : Box → Tree → Option ℕ → Type 0 where
       → IsRight case box (root (void weights)) → Holds case box (void weights) None
   at_bound : {box tight : Box} {lambda : ℕ} {weights : List Weight} {value : ℤ}
       → IsRight case box (root (bound lambda weights))
-      → IsTightBox case box tight → IsDualValue case tight lambda weights value
+      → TightensTo case box tight → IsDualValue case tight lambda weights value
       → Holds case box (bound lambda weights) (Some (bound_at value lambda))
   at_hair : {box tight : Box} {row plain : ℕ} → IsRight case box (root (hair row))
-      → IsTightBox case box tight → IsPlainBound case tight plain → Holds case box (hair row) (Some plain)
+      → TightensTo case box tight → IsPlainBound case tight plain → Holds case box (hair row) (Some plain)
   at_open_leaf : {box : Box} {lambda : ℕ} {weights : List Weight} {value : ℤ}
       → IsRight case box (root (open_leaf lambda weights))
       → IsDualValue case box lambda weights value

@@ -6,10 +6,11 @@ use Rattle.coord_model.specs.declared.tree.NodeLine.TheVariants.{Split, Empty, V
 use Rattle.coord_model.specs.declared.weights.Weight.{Weight}
 use Rattle.margin_rows.specs.Box.{Box}
 use Rattle.margin_rows.specs.Case.{Case}
+use Rattle.box_range.specs.Drops.{TightensTo}
 use Rattle.box_bound.specs.DualValue.{IsDualValue}
 use Rattle.box_bound.specs.LowerBound.{bound_at, IsPlainBound}
 use Rattle.cert_tree.specs.NodeFaults.{IsFirstWrong}
-use Rattle.cert_tree.specs.NodeRules.{IsTightBox, IsRight}
+use Rattle.cert_tree.specs.NodeRules.{IsRight}
 use Rattle.cert_tree.specs.declared.kind.NodeKind.{NodeKind}
 
 -- a node by its line and its weights
@@ -37,10 +38,10 @@ Gives case box weights (Split relay at) given = given ≡ None
 Gives case box weights Empty given = given ≡ None
 Gives case box weights Void given = given ≡ None
 Gives case box weights (Bound lambda) given =
-    (tight : Box) × (bound : ℕ) × IsTightBox case box tight
+    (tight : Box) × (bound : ℕ) × TightensTo case box tight
     × IsDualBound case tight lambda weights bound × (given ≡ Some bound)
 Gives case box weights (Hair row) given =
-    (tight : Box) × (bound : ℕ) × IsTightBox case box tight
+    (tight : Box) × (bound : ℕ) × TightensTo case box tight
     × IsPlainBound case tight bound × (given ≡ Some bound)
 Gives case box weights (OpenLeaf lambda) given =
     (bound : ℕ) × IsDualBound case box lambda weights bound × (given ≡ Some bound)

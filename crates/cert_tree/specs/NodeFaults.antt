@@ -8,8 +8,8 @@ use Rattle.margin_rows.specs.Case.{Case, row_at}
 use Rattle.margin_rows.specs.Halves.{CanSplit}
 use Rattle.margin_rows.specs.Lowest.{HasOnePickup, lowest_of}
 use Rattle.margin_rows.specs.Margin.{MeetsStrictly}
-use Rattle.box_range.specs.Drops.{IsEmptied}
-use Rattle.cert_tree.specs.NodeRules.{IsTightBox, IsVoid, NamesRows}
+use Rattle.box_range.specs.Drops.{IsEmptied, TightensTo}
+use Rattle.cert_tree.specs.NodeRules.{IsVoid, NamesRows}
 use Rattle.cert_tree.specs.declared.kind.NodeKind.{NodeKind}
 use Rattle.cert_tree.specs.declared.kind.NodeKind.TheVariants.{RowNumber, SplitRelay, NotEmpty, Emptied, NotVoid, ManyPickups, NotHair, SplitAt}
 
@@ -32,17 +32,17 @@ IsWrong case box node Emptied =
     (IsClosing node.line × IsEmptied case box)
     ⊎ ((lambda : ℕ) × (node.line ≡ OpenLeaf lambda) × HasEmptySpan box)
 IsWrong case box node NotVoid =
-    (node.line ≡ Void) × ((tight : Box) → IsTightBox case box tight → ¬ (IsVoid case tight node))
+    (node.line ≡ Void) × ((tight : Box) → TightensTo case box tight → ¬ (IsVoid case tight node))
 IsWrong case box node ManyPickups =
     (row : ℕ) × (node.line ≡ Hair row)
-    × ((tight : Box) → IsTightBox case box tight → ¬ (HasOnePickup tight))
+    × ((tight : Box) → TightensTo case box tight → ¬ (HasOnePickup tight))
 IsWrong case box node NotHair =
     (row : ℕ) × (node.line ≡ Hair row)
-    × ((tight : Box) → IsTightBox case box tight
+    × ((tight : Box) → TightensTo case box tight
     → MeetsStrictly case (lowest_of tight) (row_at case row))
 IsWrong case box node SplitAt =
     (relay at : ℕ) × (node.line ≡ Split relay at)
-    × ((tight : Box) → IsTightBox case box tight → ¬ (CanSplit tight relay at))
+    × ((tight : Box) → TightensTo case box tight → ¬ (CanSplit tight relay at))
 
 -- the place of a kind in the order in which they are told
 abbrev pub rank : NodeKind → ℕ

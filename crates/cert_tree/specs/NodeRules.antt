@@ -9,12 +9,7 @@ use Rattle.margin_rows.specs.Halves.{CanSplit}
 use Rattle.margin_rows.specs.Lowest.{HasOnePickup, lowest_of}
 use Rattle.margin_rows.specs.Margin.{MeetsStrictly}
 use Rattle.box_bound.specs.DualValue.{IsDualValue}
-use Rattle.box_range.specs.Drops.{Drops, IsEmptied, IsTight}
-
--- the box is the tight box of another: drops lead to it
-pub record IsTightBox (case : Case) (box tight : Box) : Type 0 where
-  pub led : Drops case box tight
-  pub no_more : IsTight case tight
+use Rattle.box_range.specs.Drops.{IsEmptied, TightensTo}
 
 -- each row that the line and the weights name is one of the case
 pub record NamesRows (case : Case) (node : Single) : Type 0 where
@@ -51,7 +46,7 @@ AsksTight case tight node (OpenLeaf lambda) = ⊥
 abbrev pub Asks : Case → Box → Single → NodeLine → Type 0
 Asks case box node Empty = IsEmptied case box
 Asks case box node (OpenLeaf lambda) = HasNoEmptySpan box
-Asks case box node line = (tight : Box) × IsTightBox case box tight × AsksTight case tight node line
+Asks case box node line = (tight : Box) × TightensTo case box tight × AsksTight case tight node line
 
 -- the node by itself, those below it left aside, is right at its box
 pub record IsRight (case : Case) (box : Box) (node : Single) : Type 0 where

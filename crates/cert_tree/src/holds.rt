@@ -6,6 +6,7 @@ ghost use Rattle.margin_rows.specs.Box.{FitsBox};
 ghost use Rattle.margin_rows.specs.Case.{FitsCase};
 ghost use Rattle.cert_tree.specs.Holding.{Fails, Holds};
 ghost use Rattle.cert_tree.specs.Proving.{IsProved};
+ghost use Rattle.cert_tree.specs.TreeWalks.{GivesAsTree, LeadsToOne, RefusesIfFails, TakesIfHolds};
 ghost use Rattle.cert_tree.specs.Verdict.{IsTold, GivesBound, GivesFault, HoldsOrFails, NeverBoth};
 ghost use Rattle.cert_tree.specs.Walks.{Refuses, Walked};
 ghost use Rattle.cert_tree.specs.declared.kind.NodeKind.{NodeKind as NodeKindData};
@@ -68,6 +69,20 @@ pub fn holds_at(
 pub fn each_tree_holds_or_fails()
     ensures either { HoldsOrFails }
     ensures never_both { NeverBoth }
+{}
+
+/// A walk that takes the nodes of a tree in pre-order, the first of them at its first due box, takes all exactly if the
+/// tree holds there, and is past it then: the other boxes are due, and the tree's bound and boxes are added. It refuses
+/// one exactly if the tree fails there, at that node and in that way. `TreeWalk::node` takes each node so.
+pub fn each_walk_passes_or_refuses()
+    ensures takes { TakesIfHolds }
+    ensures refuses { RefusesIfFails }
+
+    // A walk from a box has the bound, the boxes and the ending of the tree that it took.
+    ensures whole { GivesAsTree }
+
+    // A walk goes on in one way only.
+    ensures one { LeadsToOne }
 {}
 
 /// Takes the nodes of a tree in pre-order, the first of them at the first due box.

@@ -5,9 +5,10 @@ ghost use Rattle.coord_model.specs.declared.weights.Weight.{Weight as WeightData
 ghost use Rattle.margin_rows.specs.Box.{FitsBox};
 ghost use Rattle.margin_rows.specs.Case.{rows_in, FitsCase};
 ghost use Rattle.margin_rows.specs.Within.{IsWithin};
+ghost use Rattle.box_range.specs.Drops.{TightensTo};
 ghost use Rattle.box_bound.specs.Weighing.{FitWeights};
 ghost use Rattle.cert_tree.specs.Judgement.{single, HasLambda, IsJudged};
-ghost use Rattle.cert_tree.specs.NodeRules.{IsTightBox, NamesRows};
+ghost use Rattle.cert_tree.specs.NodeRules.{NamesRows};
 
 use crate::kind::NodeKind;
 use box_bound::{bound_of, plain, value};
@@ -30,7 +31,7 @@ pub fn judge(
     requires lambda { HasLambda line }
 
     ensures exact { IsJudged inst.now ranges.old (single line weights.now) result }
-    ensures tight { OnOk result ((relay at : ℕ) → line ≡ NodeLine.Split relay at → IsTightBox inst.now ranges.old ranges.new) }
+    ensures tight { OnOk result ((relay at : ℕ) → line ≡ NodeLine.Split relay at → TightensTo inst.now ranges.old ranges.new) }
     ensures within { IsWithin ranges.new ranges.old }
     ensures limits { FitsCase inst.now }
 {
@@ -79,7 +80,7 @@ fn split(inst: &Instance, ranges: &mut Ranges, relay: u16, at: u16) -> Result<Op
     requires { FitsBox inst.now ranges.old }
     ensures exact { (weights : List WeightData) → NamesRows inst.now (single (NodeLine.Split relay at) weights)
         → IsJudged inst.now ranges.old (single (NodeLine.Split relay at) weights) result }
-    ensures tight { OnOk result (IsTightBox inst.now ranges.old ranges.new) }
+    ensures tight { OnOk result (TightensTo inst.now ranges.old ranges.new) }
     ensures within { IsWithin ranges.new ranges.old }
 {
     if usize::from(relay) >= inst.study().relays.len() {

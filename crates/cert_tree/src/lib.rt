@@ -11,10 +11,7 @@ mod room;
 mod tree;
 mod walk;
 
-pub use holds::{TreeRefusal, each_tree_holds_or_fails, holds_at};
+pub use holds::{TreeRefusal, each_tree_holds_or_fails, each_walk_passes_or_refuses, holds_at};
 pub use kind::NodeKind;
 pub use tree::{boxes, ending_of};
 pub use walk::TreeWalk;
-
-#[cfg(test)]
-mod tests;

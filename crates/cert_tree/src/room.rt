@@ -19,18 +19,18 @@ use std::mem;
 /// The places for the boxes that can be due from this box on: one more than the splits that it allows.
 ///
 /// `NoMemory` also if they or the relays are too many to count: a room that great can't be made.
-pub fn places_from(ranges: &Ranges) -> Result<usize, NoMemory>
+pub fn places_from(ranges: &Ranges) -> Result<u32, NoMemory>
     ensures { IfOk result (λ places. places ≡ splits_left ranges.now + 1) }
 {
     splits_left(ranges)?.checked_add(1).ok_or(NoMemory)
 }
 
 /// The splits that a box allows, one below another.
-fn splits_left(ranges: &Ranges) -> Result<usize, NoMemory>
+fn splits_left(ranges: &Ranges) -> Result<u32, NoMemory>
     ensures { IfOk result (λ splits. splits ≡ splits_left ranges.now) }
 {
     let relays = u16::try_from(ranges.relays()).map_err(|_| NoMemory)?;
-    let mut splits: usize = 0;
+    let mut splits: u32 = 0;
     for relay in 0..relays {
         let more = splits_of(ranges.pickup(relay));
         splits = splits.checked_add(more).ok_or(NoMemory)?;
@@ -39,10 +39,10 @@ fn splits_left(ranges: &Ranges) -> Result<usize, NoMemory>
 }
 
 /// The splits that a span allows: one fewer than its steps.
-fn splits_of(shown: Span) -> usize
+fn splits_of(shown: Span) -> u32
     ensures { (span : Steps) → IsShownAs span shown → result ≡ splits_of span }
 {
-    usize::from(shown.hi.saturating_sub(shown.lo))
+    u32::from(shown.hi.saturating_sub(shown.lo))
 }
 
 /// Takes a node at the first due box: where the due boxes begin then, and the bound that the node gives.

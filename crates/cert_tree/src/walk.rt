@@ -32,7 +32,7 @@ pub struct TreeWalk {
 }
 
 impl Model for TreeWalk {
-    ghost use Rattle.std.specs.Prelude.{◌≤◌, drop};
+    ghost use Rattle.std.specs.Prelude.{◌≤◌, ◌<◌, ◌^◌, drop, length};
     ghost use Rattle.cert_tree.specs.Room.{IsRoom};
     ghost use Rattle.cert_tree.specs.Walks.{Walk};
 
@@ -46,7 +46,7 @@ impl Model for TreeWalk {
       refused = a.refused;
     } };
 
-    ghost invariant = { λ a. IsRoom a.room.items a.first × (a.counts.boxes ≤ a.nodes) };
+    ghost invariant = { λ a. IsRoom a.room.items a.first × (a.counts.boxes ≤ a.nodes) × (length a.room.items < 2 ^ 32) };
 }
 
 impl TreeWalk {
@@ -121,10 +121,10 @@ impl TreeWalk {
     }
 
     /// How many boxes are due.
-    pub fn due(&self) -> usize
+    pub fn due(&self) -> u32
         ensures { result ≡ length self.now.due }
     {
-        self.room.len() - self.first
+        (self.room.len() - self.first) as u32
     }
 
     /// How many nodes were taken.
@@ -160,10 +160,10 @@ impl TreeWalk {
 }
 
 /// So many boxes, each equal to this one.
-fn copies(alloc: Global, ranges: &Ranges, places: usize) -> Result<Vec<Ranges>, NoMemory>
+fn copies(alloc: Global, ranges: &Ranges, places: u32) -> Result<Vec<Ranges>, NoMemory>
     ensures { IfOk result (λ room. room.items ≡ replicate places ranges.now) }
 {
-    let mut room = Vec::with_capacity(alloc, places)?;
+    let mut room = Vec::with_capacity(alloc, places as usize)?;
     for _ in 0..places {
         room.push(ranges.copy()?)?;
     }

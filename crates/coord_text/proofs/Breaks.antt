@@ -40,10 +40,6 @@ all_passed : (none long unended printed : Bool) (n to : ℕ) → none ≡ false 
     → (if none then End else (if long then TooLong else (if unended then NoEnd else (if printed then Line n else NotAscii)))) ≡ Line to
 all_passed none long unended printed n to a b c d e = rw (a, b, c, d, e) refl
 
--- a number that a test tells from another differs from it
-apart : (m n : ℕ) → (m == n) ≡ false → m ≢ n
-apart m n h same = grind (arith, nat_tests)
-
 -- a number that isn't above another
 not_above : (m n : ℕ) → nat_lt m n ≡ false → n ≤ m
 not_above m n h = grind (arith, nat_tests)

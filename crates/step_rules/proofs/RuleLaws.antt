@@ -14,11 +14,12 @@ use Rattle.margin_rows.specs.Lowest.{HasOnePickup, lowest_of}
 use Rattle.margin_rows.specs.Margin.{MeetsStrictly}
 use Rattle.margin_rows.specs.Price.{cost_of, lower_cost_of}
 use Rattle.margin_rows.proofs.Widths.{gap_covers}
+use Rattle.box_range.specs.Drops.{TightensTo}
 use Rattle.box_bound.specs.LowerBound.{IsPlainBound}
 use Rattle.box_bound.proofs.LowestBounds.{CostsMore, low_bound, lowest_fails}
 use Rattle.step_rules.specs.Handlings.{IsDivided, tree_of}
 use Rattle.step_rules.specs.Offers.{PlainReaches, Reaches, offered}
-use Rattle.step_rules.specs.Premises.{Advised, ClosesBy, IsAsked, IsUndecided, IsVoidBy, TightensTo}
+use Rattle.step_rules.specs.Premises.{Advised, ClosesBy, IsAsked, IsUndecided, IsVoidBy}
 use Rattle.step_rules.specs.Rules.{Handled, divided}
 use Rattle.step_rules.specs.Usable.{LeafWeights, plain_weights}
 use Rattle.step_rules.specs.declared.handling.Handling.{Handling}

@@ -4,9 +4,10 @@ use Rattle.coord_model.specs.Tree.{Tree, split, empty, void, bound, hair}
 use Rattle.margin_rows.specs.Box.{Box}
 use Rattle.margin_rows.specs.Case.{Case}
 use Rattle.margin_rows.specs.Halves.{AreHalves}
+use Rattle.box_range.specs.Drops.{TightensTo}
 use Rattle.advice.specs.declared.adviser.Advice.{Advice}
 use Rattle.step_rules.specs.OpenBoxes.{IsOpenBox}
-use Rattle.step_rules.specs.Premises.{Advised, TightensTo}
+use Rattle.step_rules.specs.Premises.{Advised}
 use Rattle.step_rules.specs.Splits.{IsSplit}
 use Rattle.step_rules.specs.Usable.{LeafWeights, leaf_weights, open_with}
 use Rattle.step_rules.specs.declared.handling.Handling.{Handling}

@@ -6,7 +6,6 @@ use Rattle.margin_rows.specs.Box.{Box}
 use Rattle.margin_rows.specs.Case.{Case}
 use Rattle.margin_rows.specs.Least.{IsStrictLeastOf}
 use Rattle.margin_rows.specs.Lowest.{HasOnePickup}
-use Rattle.box_range.specs.Drops.{Drops, IsTight}
 use Rattle.step_rules.specs.Offers.{IsAdvisedOffer, PlainReaches, Reaches, lowest_pickups, offered}
 use Rattle.step_rules.specs.Usable.{AreUsable, CanBound, HasBound, LeafWeights, ShowsVoid}
 
@@ -16,11 +15,6 @@ pub record Advised : Type 0 where
   pub relay : ℕ
   pub at : ℕ
   pub pickups : List ℕ
-
--- drops lead from the box to its tight box
-pub record TightensTo (case : Case) (box tight : Box) : Type 0 where
-  pub drops : Drops case box tight
-  pub no_more : IsTight case tight
 
 -- each relay has one pickup step in the tight box; the strict-least settings of these pickups are
 -- offered

@@ -6,9 +6,9 @@ use Rattle.margin_rows.specs.Box.{Box}
 use Rattle.margin_rows.specs.Case.{Case}
 use Rattle.margin_rows.specs.Lowest.{HasOnePickup, lowest_of}
 use Rattle.margin_rows.specs.Unmet.{IsFirstUnmet}
-use Rattle.box_range.specs.Drops.{IsEmptied}
+use Rattle.box_range.specs.Drops.{IsEmptied, TightensTo}
 use Rattle.step_rules.specs.Offers.{PlainReaches}
-use Rattle.step_rules.specs.Premises.{Advised, ClosesBy, IsAsked, IsSingle, IsUndecided, IsVoidBy, TightensTo}
+use Rattle.step_rules.specs.Premises.{Advised, ClosesBy, IsAsked, IsSingle, IsUndecided, IsVoidBy}
 use Rattle.step_rules.specs.Splits.{IsSplit}
 use Rattle.step_rules.specs.Usable.{LeafWeights, open_with}
 

@@ -4,7 +4,9 @@ use Rattle.coord_model.specs.Allowed.{IsAllowed}
 use Rattle.coord_model.specs.Choice.{Settings}
 use Rattle.coord_model.specs.Cost.{CostsAtMost}
 use Rattle.cert_text.specs.CertData.{CertData}
+use Rattle.cert_text.specs.HeadScan.{IsFront}
 use Rattle.cert_text.specs.declared.kinds.CertHead.{CertHead}
+use Rattle.cert_text.specs.declared.kinds.CertKind.{CertKind}
 use Rattle.cert_check.specs.Accepted.{BoundsAll}
 use Rattle.cert_check.specs.ClaimFaults.{IsFirstClaimFault}
 use Rattle.cert_check.specs.Claims.{Agrees, IfPrinted}
@@ -16,10 +18,13 @@ use Rattle.cert_check.proofs.lines.LineCheck.claim.Goals as goal
 pub found_in-found-requires : goal.found_in-found-requires
 found_in-found-requires c = none_due c.args.inst.now c.args.self.now c.requires.known.0 c.requires.known.1 c.requires.holds
 
+pub choice-requires : goal.choice-requires
+choice-requires c = record { taken = subst (λ (k : CertKind). ¬ (IsFront k)) (sym c.requires.known.1.last) (λ gone. gone) }
+
 pub returns-in-Ok-clause-answers : goal.returns-in-Ok-clause-answers
 returns-in-Ok-clause-answers c = λ bytes saw.
     let case = c.args.inst.now in
-    let gives = given c.args.inst.now c.args.self.now bytes saw c.head-head.result.now c.found_in-found.result c.requires.holds (c.head-head.ensures ∙ saw.head) c.found_in-found.ensures.tree in
+    let gives = given c.args.inst.now c.args.self.now bytes saw c.head-head.result.now c.found_in-found.result c.requires.holds (c.head-head.ensures ∙ saw.head) c.found_in-found.ensures.gives in
     let head = c.head-head.ensures ∙ saw.head in
     let settings = c.choice.ensures ∙ saw.settings in
     record {
@@ -39,7 +44,7 @@ pub returns-in-Ok-clause-proves : goal.returns-in-Ok-clause-proves
 returns-in-Ok-clause-proves c =
     let case = c.args.inst.now in
     let saw = c.requires.known.1 in
-    let gives = given c.args.inst.now c.args.self.now c.requires.known.0 saw c.head-head.result.now c.found_in-found.result c.requires.holds (c.head-head.ensures ∙ saw.head) c.found_in-found.ensures.tree in
+    let gives = given c.args.inst.now c.args.self.now c.requires.known.0 saw c.head-head.result.now c.found_in-found.result c.requires.holds (c.head-head.ensures ∙ saw.head) c.found_in-found.ensures.gives in
     let agrees = c.in-Ok.ensures.agrees refl in
     let same : c.args.self.now.nodes.walk.bound ≡ c.in-Ok.claim.bound =
     sym (ap (λ (f : Found). f.bound) gives.found_is) ∙ sym agrees.bound ∙ sym (ap (λ k. k.bound) c.in-Ok.ensures.value) in
@@ -48,7 +53,7 @@ returns-in-Ok-clause-proves c =
 pub returns-in-Err-clause-answers : goal.returns-in-Err-clause-answers
 returns-in-Err-clause-answers c = λ bytes saw.
     let case = c.args.inst.now in
-    let gives = given c.args.inst.now c.args.self.now bytes saw c.head-head.result.now c.found_in-found.result c.requires.holds (c.head-head.ensures ∙ saw.head) c.found_in-found.ensures.tree in
+    let gives = given c.args.inst.now c.args.self.now bytes saw c.head-head.result.now c.found_in-found.result c.requires.holds (c.head-head.ensures ∙ saw.head) c.found_in-found.ensures.gives in
     record {
       cert = saw.cert;
       text = saw.text;
@@ -60,7 +65,7 @@ returns-in-Err-clause-answers c = λ bytes saw.
 pub returns-in-Err-clause-accepts : goal.returns-in-Err-clause-accepts
 returns-in-Err-clause-accepts c = λ bytes cert saw text right.
     let case = c.args.inst.now in
-    let gives = given c.args.inst.now c.args.self.now bytes saw c.head-head.result.now c.found_in-found.result c.requires.holds (c.head-head.ensures ∙ saw.head) c.found_in-found.ensures.tree in
+    let gives = given c.args.inst.now c.args.self.now bytes saw c.head-head.result.now c.found_in-found.result c.requires.holds (c.head-head.ensures ∙ saw.head) c.found_in-found.ensures.gives in
     let one = same_text cert saw.cert bytes text saw.text in
     let agrees = right_agrees case saw.cert c.args.self.now.nodes.walk.bound (subst (λ (k : CertData). IsRight case k) one right) gives.holds in
     absurd (cc (c.in-Err.ensures.accepts (moved (λ (h : CertHead) (s : Option Settings) (f : Found). Agrees case h s f) _ _ _ _ _ _ (sym (c.head-head.ensures ∙ saw.head)) (sym (c.choice.ensures ∙ saw.settings)) (sym gives.found_is) agrees)))

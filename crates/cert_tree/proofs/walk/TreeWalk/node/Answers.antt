@@ -30,13 +30,13 @@ invariant_of-self c =
     let len : length new ≡ c.self.inside.room.len = c.take_first.auto.room ∙ c.deref_mut.ensures.len in
     let boxes : c.and-self-inside.result.boxes ≡ c.self.inside.counts.boxes + c.of.result.boxes = ap (λ (k : Counts). k.boxes) c.and-self-inside.ensures in
     let one : c.of.result.boxes ≡ (counts_by c.args.line).boxes = ap (λ (k : Counts). k.boxes) c.of.ensures in
-    rw (written_back new _ _ len) (c.in-Ok.ensures.room, omega (arith, boxes, one, one_box c.args.line, c.self.invariant.1))
+    rw (written_back new _ _ len) (c.in-Ok.ensures.room, omega (arith, boxes, one, one_box c.args.line, c.self.invariant.1), omega (arith, len, c.self.invariant.2))
 
 pub invariant_of-self-in-Err : goal.invariant_of-self-in-Err
 invariant_of-self-in-Err c =
     let new = c.take_first.new.room in
     let len : length new ≡ c.self.inside.room.len = c.take_first.auto.room ∙ c.deref_mut.ensures.len in
-    rw (written_back new _ _ len) (c.in-Err.ensures.kept, c.self.invariant.1)
+    rw (written_back new _ _ len) (c.in-Err.ensures.kept, c.self.invariant.1, omega (arith, len, c.self.invariant.2))
 
 pub returns-in-Ok-clause-fits : goal.returns-in-Ok-clause-fits
 returns-in-Ok-clause-fits c =

@@ -3,8 +3,7 @@ ghost use Rattle.std.specs.Prelude.{◌≡◌, [], ◌∷◌, IfOk};
 ghost use Rattle.coord_model.specs.Tree.{bound, shape};
 ghost use Rattle.cert_text.specs.CertData.{IsCert, cert_data};
 
-use crate::printer::CertPrinter;
-use crate::text::cert_bytes;
+use cert_text::{CertPrinter, cert_bytes};
 use coord_model::{Cert, Choice, Ending, NoMemory, Node, Weights};
 use std::alloc::Global;
 use std::boxed::Box;

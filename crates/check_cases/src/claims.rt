@@ -1,7 +1,7 @@
 //! Claims that are worked out by hand: curve B takes 13.5/(M - 1) seconds at the multiple of pickup M and dial 1.
 ghost use Rattle.std.specs.Prelude.{◌≡◌, IfOk, IsSome, length};
 
-use crate::{Claim, ClaimKind, Found, check_claim, found_in};
+use cert_check::{Claim, ClaimKind, Found, check_claim, found_in};
 use cert_text::CertHead;
 use cert_tree::TreeWalk;
 use coord_model::{Choice, Ending, NoMemory, NodeLine, StudyHead};

@@ -12,7 +12,7 @@ fn a_least_row_and_a_most_row_count_in_a_bound(rt: HostRuntime) -> Result<(), Bu
     };
     let inst = two_lines(rt.alloc(), 20, 0, limits)?;
     let issued = Issued {
-        cost: 375_000,
+        cost: Some(375_000),
         budget: 1,
     };
     let least = weighed(NodeLine::Bound { lambda: 1 }, Rows::One(1));
@@ -52,7 +52,7 @@ fn a_most_row_alone_empties_a_box(rt: HostRuntime) -> Result<(), BuildFault> {
     };
     let inst = two_lines(rt.alloc(), 20, 0, limits)?;
     let issued = Issued {
-        cost: 262_500,
+        cost: Some(262_500),
         budget: 1,
     };
     let rows: &[Row] = &[
@@ -71,7 +71,7 @@ fn a_most_row_that_is_just_met_empties_nothing(rt: HostRuntime) -> Result<(), Bu
     };
     let inst = two_lines(rt.alloc(), 20, 0, limits)?;
     let issued = Issued {
-        cost: 262_500,
+        cost: Some(262_500),
         budget: 1,
     };
     let rows: &[Row] = &[

@@ -1,8 +1,5 @@
 //! Certificates both ways, and where texts stop being one.
-use crate::kinds::CertKind;
-use crate::reading::read_cert;
-use crate::refusal::CertRefusal;
-use crate::text::cert_bytes;
+use cert_text::{CertKind, CertRefusal, cert_bytes, read_cert};
 use coord_model::NoMemory;
 use std::alloc::Global;
 

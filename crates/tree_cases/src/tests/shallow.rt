@@ -1,18 +1,13 @@
 //! Leaves, and trees of one split.
 use super::*;
 
-const NO_LIMITS: Limits = Limits {
-    least_ms: 0,
-    most_ms: 0,
-};
-
 // The cheapest dials are 0.250 and 0.050: the first relay takes 0.75 s at its own fault, 187,500 us, the second 75,000
 // us. In the open leaf both are at 0.050, which takes 37,500 us and 75,000 us.
 #[test]
 fn a_bound_is_that_of_its_tight_box(rt: HostRuntime) -> Result<(), BuildFault> {
     let inst = two_lines(rt.alloc(), 20, 0, NO_LIMITS)?;
     let issued = Issued {
-        cost: 262_500,
+        cost: Some(262_500),
         budget: 1,
     };
     let rows: &[Row] = &[
@@ -32,7 +27,7 @@ fn a_bound_is_that_of_its_tight_box(rt: HostRuntime) -> Result<(), BuildFault> {
 fn an_emptied_box_has_no_bound(rt: HostRuntime) -> Result<(), BuildFault> {
     let inst = two_lines(rt.alloc(), 4, 0, NO_LIMITS)?;
     let issued = Issued {
-        cost: 262_500,
+        cost: Some(262_500),
         budget: 1,
     };
     let rows: &[Row] = &[
@@ -52,7 +47,7 @@ fn an_emptied_box_has_no_bound(rt: HostRuntime) -> Result<(), BuildFault> {
 fn a_box_without_pickups_is_empty(rt: HostRuntime) -> Result<(), BuildFault> {
     let inst = two_lines(rt.alloc(), 20, 100, NO_LIMITS)?;
     let issued = Issued {
-        cost: 262_500,
+        cost: Some(262_500),
         budget: 1,
     };
     let rows: &[Row] = &[
@@ -69,7 +64,7 @@ fn a_box_without_pickups_is_empty(rt: HostRuntime) -> Result<(), BuildFault> {
 fn a_hair_gives_the_plain_bound(rt: HostRuntime) -> Result<(), BuildFault> {
     let inst = tied_lines(rt.alloc())?;
     let issued = Issued {
-        cost: 271_000,
+        cost: Some(271_000),
         budget: 1,
     };
     let rows: &[Row] = &[
@@ -88,7 +83,7 @@ fn a_hair_gives_the_plain_bound(rt: HostRuntime) -> Result<(), BuildFault> {
 fn a_split_gives_the_lower_bound_of_its_halves(rt: HostRuntime) -> Result<(), BuildFault> {
     let inst = two_pickups(rt.alloc())?;
     let issued = Issued {
-        cost: 262_500,
+        cost: Some(262_500),
         budget: 3,
     };
     let rows: &[Row] = &[

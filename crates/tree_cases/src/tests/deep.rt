@@ -49,7 +49,7 @@ const fn no_split(leaf: Single) -> Half {
 fn weights_count_in_a_bound(rt: HostRuntime) -> Result<(), BuildFault> {
     let inst = parallel_lines(rt.alloc(), 100)?;
     let issued = Issued {
-        cost: 216_000,
+        cost: Some(216_000),
         budget: 1,
     };
     let third = weighed(NodeLine::Bound { lambda: 3 }, Rows::Both);
@@ -67,7 +67,7 @@ fn weights_count_in_a_bound(rt: HostRuntime) -> Result<(), BuildFault> {
 fn rows_that_are_just_met_make_no_void(rt: HostRuntime) -> Result<(), BuildFault> {
     let inst = parallel_lines(rt.alloc(), 54)?;
     let issued = Issued {
-        cost: 216_000,
+        cost: Some(216_000),
         budget: 7,
     };
     let void = weighed(NodeLine::Void, Rows::Both);
@@ -105,7 +105,7 @@ fn rows_that_are_just_met_make_no_void(rt: HostRuntime) -> Result<(), BuildFault
 fn an_open_leaf_is_not_tightened(rt: HostRuntime) -> Result<(), BuildFault> {
     let inst = parallel_lines(rt.alloc(), 53)?;
     let issued = Issued {
-        cost: 216_000,
+        cost: Some(216_000),
         budget: 6,
     };
     let both = weighed(NodeLine::OpenLeaf { lambda: 1 }, Rows::Both);
@@ -138,7 +138,7 @@ fn an_open_leaf_is_not_tightened(rt: HostRuntime) -> Result<(), BuildFault> {
 fn a_split_needs_both_steps_in_the_tight_box(rt: HostRuntime) -> Result<(), BuildFault> {
     let inst = parallel_lines(rt.alloc(), 50)?;
     let issued = Issued {
-        cost: 216_000,
+        cost: Some(216_000),
         budget: 5,
     };
     let rows: &[Row] = &[
@@ -157,7 +157,7 @@ fn a_split_needs_both_steps_in_the_tight_box(rt: HostRuntime) -> Result<(), Buil
 fn each_fault_is_told_deep_in_a_tree(rt: HostRuntime) -> Result<(), BuildFault> {
     let inst = parallel_lines(rt.alloc(), 53)?;
     let issued = Issued {
-        cost: 216_000,
+        cost: Some(216_000),
         budget: 7,
     };
     let empties = leaves(EMPTY, PLAIN);
@@ -211,7 +211,7 @@ fn each_fault_is_told_deep_in_a_tree(rt: HostRuntime) -> Result<(), BuildFault> 
 fn the_first_fault_is_told(rt: HostRuntime) -> Result<(), BuildFault> {
     let inst = parallel_lines(rt.alloc(), 53)?;
     let issued = Issued {
-        cost: 216_000,
+        cost: Some(216_000),
         budget: 7,
     };
     let empties = leaves(EMPTY, PLAIN);

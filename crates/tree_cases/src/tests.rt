@@ -6,7 +6,7 @@ ghost use Rattle.coord_model.specs.TreeLimits.{AreLeafWeights, FitLeaves, FitsTr
 ghost use Rattle.margin_rows.specs.Box.{FitsBox};
 ghost use Rattle.cert_tree.specs.Judgement.{HasLambda};
 
-use crate::{NodeKind, TreeRefusal, TreeWalk, boxes, ending_of, holds_at};
+use cert_tree::{NodeKind, TreeRefusal, TreeWalk, boxes, ending_of, holds_at};
 use coord_model::{Ending, NoMemory, Node, NodeLine, Weight, Weights};
 use hand_studies::{Limits, parallel_lines, tied_lines, two_lines, two_pickups};
 use margin_rows::{BuildFault, Instance, Ranges};
@@ -17,6 +17,7 @@ use std::process::Abort;
 mod deep;
 mod limits;
 mod shallow;
+mod unissued;
 
 /// The rows that weigh 1 in a node.
 #[derive(Clone, Copy)]
@@ -50,14 +51,19 @@ type Told = (Option<u64>, u32, Option<Ending>);
 /// A tree, and what is told of it.
 type Row = (Tree, Result<Told, TreeRefusal>);
 
-/// The cost of issued settings, and a budget. The gap is 1,000.
+/// The cost of issued settings, if there are any, and a budget. The gap is 1,000.
 #[derive(Clone, Copy)]
 struct Issued {
-    cost: u64,
+    cost: Option<u64>,
     budget: u32,
 }
 
 const GAP: u64 = 1_000;
+
+const NO_LIMITS: Limits = Limits {
+    least_ms: 0,
+    most_ms: 0,
+};
 
 const fn unweighed(line: NodeLine) -> Single {
     Single {
@@ -140,7 +146,7 @@ fn whole(
     let node = planted(alloc, tree)?;
     let ranges = Ranges::first(alloc, inst)?;
     let bound = holds_at(alloc, inst, &ranges, &node)?;
-    let ending = ending_of(&node, bound, Some(issued.cost), GAP, issued.budget);
+    let ending = ending_of(&node, bound, issued.cost, GAP, issued.budget);
     Ok((bound, boxes(&node), ending))
 }
 
@@ -162,8 +168,8 @@ fn by_nodes(
     }
 }
 
-/// How many nodes are due, how many were taken, the boxes, and the bound so far.
-type Place = (usize, u32, u32, Option<u64>);
+/// How many boxes are due, how many nodes were taken, the boxes, and the bound so far.
+type Place = (u32, u32, u32, Option<u64>);
 
 /// Where a walk is after so many nodes of a tree.
 fn after(alloc: Global, inst: &Instance, tree: &Tree, count: usize) -> Result<Place, TreeRefusal> {
@@ -178,7 +184,7 @@ fn after(alloc: Global, inst: &Instance, tree: &Tree, count: usize) -> Result<Pl
 /// The ending of a walk if no node is due any more.
 fn ended(walk: &TreeWalk, issued: &Issued) -> Option<Ending> {
     if walk.due() == 0 {
-        walk.ending(Some(issued.cost), GAP, issued.budget)
+        walk.ending(issued.cost, GAP, issued.budget)
     } else {
         None
     }

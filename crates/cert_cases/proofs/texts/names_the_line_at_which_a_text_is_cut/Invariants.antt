@@ -1,5 +1,5 @@
 use Rattle.std.proofs.Common.{◌≤◌}
-use Rattle.cert_text.proofs.text_tests.names_the_line_at_which_a_text_is_cut.Given as goal
+use Rattle.cert_cases.proofs.texts.names_the_line_at_which_a_text_is_cut.Given as goal
 
 abbrev pub invariant-loop-cut : goal.invariant-loop-cut
 invariant-loop-cut g l = (1 ≤ l.line) × (l.line ≤ 12)

@@ -1,7 +1,7 @@
 //! Certificates of studies that are worked out by hand, read whole and a byte at a time.
 ghost use Rattle.std.specs.Prelude.{◌≡◌, None};
 
-use crate::{CheckRefusal, Claim, ClaimKind, check};
+use cert_check::{CheckRefusal, Claim, ClaimKind, check};
 use cert_text::CertKind;
 use cert_tree::NodeKind;
 use coord_io::{Failed, Folder, ReadFail};

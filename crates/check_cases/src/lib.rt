@@ -1,0 +1,8 @@
+//! Certificates and claims that are worked out by hand: the tests of `cert_check`, in a crate of their own, so that they
+//! are proved over its clauses and not together with it. No program uses them.
+#![tactic(auto)]
+
+#[cfg(test)]
+mod claims;
+#[cfg(test)]
+mod files;

@@ -1,0 +1,6 @@
+//! Trees that are worked out by hand: the tests of `cert_tree`, in a crate of their own, so that they are proved over its
+//! clauses and not together with it. No program uses them.
+#![tactic(auto)]
+
+#[cfg(test)]
+mod tests;
