@@ -13,7 +13,6 @@ use Rattle.coord_run.specs.Causes.{CaseCause, FileCause, InputsCause, NetworkCau
 use Rattle.coord_run.specs.Check.{CertCause, CheckCause, IsCheckOutput}
 use Rattle.coord_run.specs.End.{End, Ends, HasEnd, IsPrinted, OutputData, done, no_memory, refused, unwritten}
 use Rattle.coord_run.specs.FileLimits.{most_bytes_of}
-use Rattle.coord_run.specs.Headline.{IsEnding}
 use Rattle.coord_run.specs.Inputs.{AreInputs, HasNetworkFault, HasTableFault, IsNetwork, IsTable, ReadsCase}
 use Rattle.coord_run.specs.Margins.{IsMarginsOutput, MarginsCause}
 use Rattle.coord_run.specs.Pairs.{IsPairsOutput}
@@ -21,10 +20,10 @@ use Rattle.coord_run.specs.Printing.{Prints, PrintsUnlessMemory}
 use Rattle.coord_run.specs.Program.{Does, usage_text}
 use Rattle.coord_run.specs.Settings.{GivesSettings, HasSheetFault, SettingsCause}
 use Rattle.coord_run.specs.Solve.{IsGapTooSmall, IsSolved, SolveCause, Solves}
-use Rattle.coord_run.specs.SolveWords.{FileNames, SolveWords}
-use Rattle.coord_run.specs.Status.{outcome_status}
+use Rattle.coord_words.specs.SolveWords.{FileNames, SolveWords}
+use Rattle.coord_run.specs.Status.{IsEnding, outcome_status}
 use Rattle.coord_run.specs.Drill.{Drills}
-use Rattle.coord_run.specs.Words.{Command, check, drill, margins, only, pairs, solve}
+use Rattle.coord_words.specs.Words.{Command, check, drill, margins, only, pairs, solve}
 use Rattle.coord_run.specs.declared.refusal.File.{File}
 use Rattle.coord_run.specs.declared.refusal.File.TheVariants as file
 use Rattle.coord_run.specs.declared.refusal.Refusal.{Refusal}
@@ -177,7 +176,7 @@ drill_printed n before after status well (inr none) = inr none.0
 drill_printed n before after status well (inl drilled) =
     let o = drilled.2.outcome in
     let same = printed_as drilled.0 drilled.1 before after status well drilled.3 in
-    inl (subst IsEnding (sym (same ∙ drilled.2.truth.status_is)) (ending_is o.ending (is_some o.issued)))
+    inl (subst IsEnding (sym (same ∙ drilled.2.status_is)) (ending_is o.ending (is_some o.issued)))
 
 module _ (files : Files) (before after : FolderState) (sink_before sink_after : SinkState) (well : NothingFails files before after sink_before sink_after) where
   not_solved : (asked : SolveWords) (case : Case) → MakeCase files asked.names case → IfSome asked.gap (IsGapEnough case) → (refusal : Refusal)

@@ -23,7 +23,7 @@ use Rattle.coord_run.proofs.GapLaws.{gap_within}
 use Rattle.coord_run.proofs.OutcomeLaws.{shown}
 use Rattle.coord_run.specs.Certified.{cert_of, study_shown}
 use Rattle.coord_run.specs.Solve.{ComesTo}
-use Rattle.coord_run.specs.SolveWords.{IsAsked, SolveWords}
+use Rattle.coord_words.specs.SolveWords.{IsAsked, SolveWords}
 use Rattle.margin_rows.proofs.Placed.{of_some}
 use Rattle.margin_rows.proofs.Spanned.{first_box_fits}
 use Rattle.margin_rows.proofs.Timed.{at_place}

@@ -17,7 +17,7 @@ use Rattle.coord_model.specs.Choice.{Settings}
 use Rattle.coord_run.specs.Check.{CertCause, CheckCause, IsAbout, IsCertRefusal, IsCheckOf, accepted_text}
 use Rattle.coord_run.specs.Inputs.{AreInputs, ReadsCase}
 use Rattle.coord_run.specs.Stops.{StopsFor}
-use Rattle.coord_run.specs.SolveWords.{FileNames}
+use Rattle.coord_words.specs.SolveWords.{FileNames}
 use Rattle.coord_run.specs.declared.refusal.File.TheVariants as file
 use Rattle.coord_run.specs.declared.refusal.Refusal.{Refusal}
 use Rattle.coord_run.specs.declared.refusal.Stop.{Stop}

@@ -9,12 +9,12 @@ use Rattle.coord_run.proofs.HeadlineLaws.{asserts}
 use Rattle.coord_run.proofs.OutcomeLaws.{shown}
 use Rattle.coord_run.specs.Drill.{IsDrillGap, IsDrilled, drill_case, drill_report}
 use Rattle.coord_run.specs.Headline.{Asserts}
-use Rattle.coord_run.specs.OptionNumbers.{IsRing}
+use Rattle.coord_words.specs.OptionNumbers.{IsRing}
 use Rattle.coord_run.specs.Shown.{IsShown}
 use Rattle.coord_run.specs.Solve.{ComesTo}
-use Rattle.coord_run.specs.SolveWords.{SolveWords}
+use Rattle.coord_words.specs.SolveWords.{SolveWords}
 use Rattle.coord_run.specs.Status.{outcome_status}
-use Rattle.coord_run.specs.Words.{only}
+use Rattle.coord_words.specs.Words.{only}
 use Rattle.drill_ring.proofs.FewRows.{few_rows}
 use Rattle.drill_ring.specs.Drill.{drill_data}
 use Rattle.drill_ring.specs.DrillCurrents.{drill_currents}
@@ -48,6 +48,7 @@ module _ (case : Case) (outcome : Outcome) (fits : FitsCase case) (gap : ℕ) (g
     outcome = outcome;
     gap = gap;
     gap_is = subst (λ (c : Case). IsDrillGap c gap) is gap_is;
-    truth = subst (λ (c : Case). Asserts c gap 200 outcome status) is (asserts case (asked gap) outcome comes status own);
+    truth = subst (λ (c : Case). Asserts c gap 200 outcome) is (asserts case (asked gap) outcome comes);
     report_is = subst (λ (c : Case). report ≡ drill_report n c outcome) is printed;
+    status_is = own;
   }

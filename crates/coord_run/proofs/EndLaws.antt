@@ -8,7 +8,7 @@ use Rattle.coord_run.specs.End.{AreCutAt, AreWritten, Ends, FileText, OutputData
 use Rattle.coord_run.specs.Handing.{Delivers, HandsOver, files_of, output_data}
 use Rattle.coord_run.specs.Printing.{Prints}
 use Rattle.coord_run.specs.Stops.{StopsFor}
-use Rattle.coord_run.specs.SolveWords.{FileNames}
+use Rattle.coord_words.specs.SolveWords.{FileNames}
 use Rattle.coord_run.specs.declared.end.Output.{Output}
 use Rattle.coord_run.specs.declared.refusal.Refusal.{Refusal}
 use Rattle.coord_run.specs.declared.refusal.Stop.{Stop}

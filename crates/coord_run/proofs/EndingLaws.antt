@@ -1,5 +1,5 @@
 -- What each ending of a tree says of its counts, its bound and its cost.
-use Rattle.std.specs.Prelude.{Option, Some, None, ℤ, pos, negsuc, is_some, nat_le, not, if◌then◌else◌}
+use Rattle.std.specs.Prelude.{Option, Some, None, IfSome, ℤ, pos, negsuc, is_some, nat_le, not, if◌then◌else◌}
 use Rattle.std.proofs.Common.{◌≡◌, ℕ, ◌+◌, ◌^◌, ◌<◌, ◌≤◌, ◌&&◌, Bool, true, false, arith, refl, sym, subst}
 use Rattle.std.proofs.lemmas.Bool.Decides.{nat_tests}
 use Rattle.box_bound.specs.LowerBound.{bound_at}
@@ -41,10 +41,13 @@ spent_asks false false false true hair is = (refl, refl)
 spent_asks false false false false true is = let no : ⊥ = cc in absurd no
 spent_asks false false false false false is = let no : ⊥ = cc in absurd no
 
-pub hairline_asks : (over none close spent hair : Bool) → ending_in_turn over none close spent hair ≡ Some Hairline → none ≡ false
+pub hairline_asks : (over none close spent hair : Bool) → ending_in_turn over none close spent hair ≡ Some Hairline → (none ≡ false) × (close ≡ false) × (hair ≡ true)
 hairline_asks true none close spent hair is = let no : ⊥ = cc in absurd no
 hairline_asks false true close spent hair is = let no : ⊥ = cc in absurd no
-hairline_asks false false close spent hair is = refl
+hairline_asks false false true spent hair is = let no : ⊥ = cc in absurd no
+hairline_asks false false false true hair is = let no : ⊥ = cc in absurd no
+hairline_asks false false false false true is = (refl, refl, refl)
+hairline_asks false false false false false is = let no : ⊥ = cc in absurd no
 
 pub both : (a b : Bool) → (a && b) ≡ true → (a ≡ true) × (b ≡ true)
 both true b is = (refl, is)
@@ -53,11 +56,23 @@ both false b is = let no : ⊥ = cc in absurd no
 pub few_of : (a b : ℕ) → nat_le a b ≡ true → a ≤ b
 few_of a b is = grind (arith, nat_tests)
 
+many_of : (a b : ℕ) → nat_le a b ≡ false → b < a
+many_of a b is = grind (arith, nat_tests)
+
+pub is_not : (b : Bool) → not b ≡ true → b ≡ false
+is_not true is = let no : ⊥ = cc in absurd no
+is_not false is = refl
+
 -- a bound and a cost that are close
 pub close_says : (b c : Option ℕ) (gap : ℕ) → is_close b c gap ≡ true → (cost : ℕ) × (low : ℕ) × (c ≡ Some cost) × (b ≡ Some low) × (cost ≤ low + gap)
 close_says None c gap is = let no : ⊥ = cc in absurd no
 close_says (Some low) None gap is = let no : ⊥ = cc in absurd no
 close_says (Some low) (Some cost) gap is = (cost, low, refl, refl, few_of cost (low + gap) is)
+
+-- a bound that is not close to a cost
+pub apart_says : (low : ℕ) (c : Option ℕ) (gap : ℕ) → is_close (Some low) c gap ≡ false → IfSome c (λ cost. low + gap < cost)
+apart_says low None gap is = tt
+apart_says low (Some cost) gap is = many_of cost (low + gap) is
 
 -- ---- the bound of a tree
 

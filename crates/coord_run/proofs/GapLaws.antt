@@ -1,7 +1,7 @@
 -- The gap that is searched with.
 use Rattle.std.specs.Int.{div_ceil}
 use Rattle.std.proofs.Common.{◌≡◌, ◌∙◌, ℕ, ◌+◌, ◌^◌, ◌<◌, ◌≤◌, Option, Some, None, IfSome, ap, arith, sym, subst}
-use Rattle.coord_run.specs.OptionNumbers.{IsGap}
+use Rattle.coord_words.specs.OptionNumbers.{IsGap}
 use Rattle.coord_run.specs.Solve.{IsGapFor}
 use Rattle.margin_rows.proofs.SmallGaps.{width_sum_few}
 use Rattle.margin_rows.proofs.Widths.{sum_is_one}

@@ -1,5 +1,7 @@
 -- The headline of `solve` follows from all that it does.
-use Rattle.std.proofs.Common.{◌≡◌, ◌≢◌, ◌∙◌, inl, inr, ◌⊎◌, is_some, Bool, ℕ, ◌≤◌, true, false, cond, Some, List, [], ◌∷◌, ◌++◌, ap, arith, refl, subst, sym}
+use Rattle.std.proofs.Common.{◌≡◌, ◌≢◌, ◌∙◌, inl, inr, ◌⊎◌, Bool, ℕ, ◌≤◌, true, false, cond, Some, List, [], ◌∷◌, ◌++◌, ap, arith, refl, subst, sym}
+use Rattle.std.specs.Prelude.{Option, None, IfSome, IsSomeAnd}
+use Rattle.std.specs.Option.{option_map}
 use Rattle.std.specs.Str.{bytes_eq}
 use Rattle.std.proofs.lemmas.Slice.Eq.{bytes_eq-Decides}
 use Rattle.coord_io.proofs.Changes.{held-with_file}
@@ -9,17 +11,25 @@ use Rattle.coord_io.specs.Outside.{Changes, FolderState, SinkState, Takes}
 use Rattle.coord_io.specs.Written.{Gained}
 use Rattle.coord_io.specs.Goes.{Stays}
 use Rattle.coord_run.specs.End.{AreCutAt, AreWritten, End, FileText, HasEnd, IsPrinted, OutputData, Puts, done, no_memory, refused, unwritten}
-use Rattle.coord_run.specs.Headline.{Asserts, Coordinates, Headline, IsEnding}
+use Rattle.coord_run.specs.Headline.{Asserts, Certifies, Coordinates, Headline}
 use Rattle.coord_run.specs.Printing.{Prints}
 use Rattle.coord_run.specs.Certified.{cert_of}
+use Rattle.cert_check.specs.Accepted.{IsAccepted}
+use Rattle.cert_check.specs.Claims.{IfPrinted}
+use Rattle.cert_check.specs.Rightness.{claim_of}
+use Rattle.cert_text.proofs.CertLengths.{texts_fit}
 use Rattle.cert_text.specs.CertText.{cert_text}
+use Rattle.coord_model.specs.Allowed.{IsAllowed}
+use Rattle.coord_model.specs.Choice.{choice_data}
+use Rattle.coord_model.specs.Cost.{CostsAtMost}
+use Rattle.coord_model.specs.declared.choice.Choice.{Choice}
 use Rattle.coord_run.specs.Report.{sheet_of}
-use Rattle.coord_run.specs.Solve.{ComesTo, IsSolved, SolveCause, Solves}
-use Rattle.coord_run.specs.Status.{outcome_status, refusal_status}
-use Rattle.coord_run.specs.SolveWords.{SolveWords}
+use Rattle.coord_run.specs.Solve.{ComesTo, IsOutputOf, IsSolved, SolveCause, Solves}
+use Rattle.coord_run.specs.Status.{IsEnding, outcome_status, refusal_status}
+use Rattle.coord_words.specs.SolveWords.{SolveWords}
 use Rattle.coord_run.specs.declared.refusal.Refusal.{Refusal}
 use Rattle.coord_run.specs.declared.refusal.Refusal.TheVariants.{Missing, ReadFault, TooLong, NotText, NotToml, Network, TooMany, BadHeader, BadRecord, UnknownFault, UnknownRelay, BadAmps, DoubleEntry, NoPrimary, GapTooSmall, CertLine, CertNode, CertClaim, SheetLine, SheetPickup}
-use Rattle.coord_run.proofs.OutcomeLaws.{allowed, at_most, below_all, closed_of, closed_says, hairline_of, hairline_says, none_of, none_says, spent_of, spent_says}
+use Rattle.coord_run.proofs.OutcomeLaws.{allowed, at_most, below_all, closed_says, hairline_says, none_says, shown, spent_says}
 use Rattle.branch_bound.specs.declared.outcome.Outcome.{Outcome}
 use Rattle.margin_rows.specs.Case.{Case}
 use Rattle.settings_sheet.specs.SheetText.{sheet_text}
@@ -60,30 +70,18 @@ not_printed : (text : List ℕ) (own : ℕ) (before after : SinkState) (status :
 not_printed text own before after status large (inl printed) ending = let small = ending_small status ending in let is = printed.0 in omega arith
 not_printed text own before after status large (inr failed) ending = let small = ending_small status ending in let is = failed.0 in omega arith
 
-four_or_five : (status : ℕ) → (status ≡ 4) ⊎ (status ≡ 5) → (4 ≤ status) × (status ≤ 5)
-four_or_five status (inl is) = (omega (arith, is), omega (arith, is))
-four_or_five status (inr is) = (omega (arith, is), omega (arith, is))
-
-six_or_seven : (status : ℕ) → (status ≡ 6) ⊎ (status ≡ 7) → 6 ≤ status
-six_or_seven status (inl is) = omega (arith, is)
-six_or_seven status (inr is) = omega (arith, is)
-
 -- the outcome of a search is as it asserts
-pub asserts : (case : Case) (asked : SolveWords) (outcome : Outcome) (comes : ComesTo case asked outcome) (status : ℕ) → status ≡ outcome_status outcome
-    → Asserts case comes.gap asked.budget outcome status
-asserts case asked outcome comes status own =
-    let with_settings : Bool = is_some outcome.issued in
-    record {
-      settings_allowed = allowed case asked outcome comes;
-      cost_at_most = at_most case asked outcome comes;
-      bound_below_all = below_all case asked outcome comes;
-      close_at_closed = λ zero. closed_says case asked outcome comes (closed_of outcome.ending with_settings (sym own ∙ zero));
-      no_settings_true = λ three. none_says case asked outcome comes (none_of outcome.ending with_settings (sym own ∙ three));
-      spent_at_budget = λ spent. spent_says case asked outcome comes (spent_of outcome.ending with_settings (omega (arith, own, (four_or_five status spent).0)) (omega (arith, own, (four_or_five status spent).1)));
-      hairline_at_hair = λ hairline. hairline_says case asked outcome comes (hairline_of outcome.ending with_settings (omega (arith, own, six_or_seven status hairline)));
-      reached_by_steps = comes.reached;
-      status_is = own;
-    }
+pub asserts : (case : Case) (asked : SolveWords) (outcome : Outcome) (comes : ComesTo case asked outcome) → Asserts case comes.gap asked.budget outcome
+asserts case asked outcome comes = record {
+  settings_allowed = allowed case asked outcome comes;
+  cost_at_most = at_most case asked outcome comes;
+  bound_below_all = below_all case asked outcome comes;
+  at_closed = closed_says case asked outcome comes;
+  at_no_settings = none_says case asked outcome comes;
+  at_budget_spent = spent_says case asked outcome comes;
+  at_hairline = hairline_says case asked outcome comes;
+  reached_by_steps = comes.reached;
+}
 
 -- other names than these two are held as before
 abbrev OthersStay : List ℕ → List ℕ → Files → Files → Type 0
@@ -133,6 +131,40 @@ cut_stay cert sheet file before after cut = go cut.whole cut.order cut.left
     go (x ∷ y ∷ []) order left = let no : ⊥ = cc in absurd no
     go (x ∷ y ∷ z ∷ whole) order left = let no : ⊥ = cc in absurd no
 
+-- printed settings are allowed, and cost at most the printed cost
+settings_true : (case : Case) (issued : Option Choice) (cost : Option ℕ) → IfSome issued (λ choice. IsAllowed case.study case.currents (choice_data choice))
+    → IfSome issued (λ choice. IsSomeAnd cost (CostsAtMost case.study case.currents (choice_data choice)))
+    → IfSome (option_map choice_data issued) (IsAllowed case.study case.currents)
+    × IfPrinted (option_map choice_data issued) cost (CostsAtMost case.study case.currents)
+settings_true case None cost allows costs = (tt, tt)
+settings_true case (Some choice) (Some cost) allows costs = (allows, costs)
+settings_true case (Some choice) None allows costs = absurd costs
+
+-- the checker accepts the certificate of an output
+accepted : (case : Case) (asked : SolveWords) (output : OutputData) (is : IsOutputOf asked case output)
+    → IsAccepted case (cert_text (cert_of case is.outcome)) (claim_of (cert_of case is.outcome).head)
+accepted case asked output is =
+    let settings = settings_true case is.outcome.issued is.outcome.cost (allowed case asked is.outcome is.comes) (at_most case asked is.outcome is.comes) in
+    record {
+      cert = cert_of case is.outcome;
+      text = record { is = is.cert_fits; text = refl };
+      right = is.cert_right;
+      claim_is = refl;
+      allowed = settings.0;
+      at_most = settings.1;
+    }
+
+-- the certificate of an output is as it certifies
+certifies : (case : Case) (asked : SolveWords) (output : OutputData) (is : IsOutputOf asked case output) → Certifies case is.comes.gap asked.budget is.outcome
+certifies case asked output is = record {
+  is_text = record { is = is.cert_fits; text = refl };
+  within = texts_fit (cert_of case is.outcome) is.cert_fits;
+  right = is.cert_right;
+  accepted = accepted case asked output is;
+  gap_told = is.comes.reached.is_outcome.same_gap;
+  budget_told = is.comes.reached.is_outcome.same_budget;
+}
+
 module _ (asked : SolveWords) (before after : FolderState) (sink_before sink_after : SinkState) (status : ℕ) where
   written : (output : OutputData) → IsSolved asked before after output → AreWritten output.files before after → Prints output.report output.status sink_before sink_after status
       → IsEnding status → Coordinates asked before after sink_before sink_after status
@@ -151,11 +183,12 @@ module _ (asked : SolveWords) (before after : FolderState) (sink_before sink_aft
         gap = comes.gap;
         inputs_as_read = is.inputs;
         gap_as_asked = comes.is_gap;
-        truth = asserts case asked outcome comes status own;
-        certificate_is_text = record { is = is.of_case.cert_fits; text = refl };
-        certificate_right = is.of_case.cert_right;
+        truth = asserts case asked outcome comes;
+        certificate = certifies case asked output is.of_case;
+        sheet_is_text = (shown case asked outcome comes).sheet;
         files_written = goes_as (λ m n was both. both_put cert sheet m n both) puts;
         report_printed = subst (λ (o : OutputData). Takes sink_before sink_after (Gained o.report)) is.of_case.is printed.1;
+        status_is = own;
       }
 
   -- what `solve` does makes the headline true

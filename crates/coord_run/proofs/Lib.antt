@@ -8,12 +8,8 @@ pub mod EndingLaws
 pub mod GapLaws
 pub mod Gathered
 pub mod HeadlineLaws
-pub mod KeptNames
 pub mod MarginsLaws
 pub mod MovingLaws
-pub mod NameWalk
-pub mod NumberLaws
-pub mod OptionWalk
 pub mod OutcomeLaws
 pub mod ReadingLaws
 pub mod RightCerts
@@ -21,10 +17,3 @@ pub mod RowLaws
 pub mod SearchedLaws
 pub mod SettingsLaws
 pub mod SolveLaws
-pub mod UseEnd
-pub mod UseRows
-pub mod UseRules
-pub mod UseWalk
-pub mod WordAnswers
-pub mod WordFaults
-pub mod WordKinds

@@ -6,7 +6,7 @@ use Rattle.coord_run.specs.Inputs.{AreInputs, ReadsCase}
 use Rattle.coord_run.specs.Margins.{IsMarginsOf, MarginsCause, margins_text}
 use Rattle.coord_run.specs.Settings.{FitFirstBox, GivesSettings, SettingsCause}
 use Rattle.coord_run.specs.Stops.{StopsFor}
-use Rattle.coord_run.specs.SolveWords.{FileNames}
+use Rattle.coord_words.specs.SolveWords.{FileNames}
 use Rattle.coord_run.specs.declared.refusal.Stop.{Stop}
 use Rattle.coord_run.proofs.ReadingLaws.{of_case, stops_as, told_last}
 use Rattle.coord_run.proofs.SettingsLaws.{settings_last}

@@ -9,7 +9,7 @@ use Rattle.coord_run.specs.Margins.{IsMarginsOutput}
 use Rattle.coord_run.specs.Pairs.{IsPairsOutput}
 use Rattle.coord_run.specs.Settings.{GivesSettings}
 use Rattle.coord_run.specs.Solve.{IsSolved}
-use Rattle.coord_run.specs.SolveWords.{FileNames, SolveWords}
+use Rattle.coord_words.specs.SolveWords.{FileNames, SolveWords}
 use Rattle.coord_run.proofs.ReadingLaws.{told_first}
 
 pub solved_moves : (asked : SolveWords) (before between after : FolderState) (step : Files → Files → Type 0) → Changes between after step → (output : OutputData)

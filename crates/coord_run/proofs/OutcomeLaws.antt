@@ -1,27 +1,28 @@
 -- What one may rest on after a search, by what its outcome is.
 use Rattle.std.specs.Prelude.{Option, Some, None, is_some, not, ⊤, IfSome, IsSomeAnd}
 use Rattle.std.specs.Option.{option_map}
-use Rattle.std.proofs.Common.{◌≡◌, ◌∙◌, ℕ, ◌<◌, ◌≤◌, Bool, true, false, length, arith, refl, sym, ap, subst}
+use Rattle.std.proofs.Common.{◌≡◌, ◌∙◌, ℕ, ◌+◌, ◌<◌, ◌≤◌, ◌&&◌, Bool, true, false, length, arith, refl, sym, ap, subst}
 use Rattle.std.proofs.lemmas.Bool.Decides.{Decides-eqb}
-use Rattle.branch_bound.specs.HairLeaf.{IsHairPlace}
+use Rattle.branch_bound.specs.HairLeaf.{IsFirstHair, IsHairPlace}
 use Rattle.branch_bound.specs.Outcome.{IsOutcome}
 use Rattle.branch_bound.specs.declared.outcome.HairPlace.{HairPlace}
 use Rattle.branch_bound.specs.declared.outcome.Outcome.{Outcome}
-use Rattle.cert_tree.specs.Endings.{boxes, has_no_settings, has_open_leaf}
+use Rattle.cert_tree.specs.Endings.{boxes, has_hair, has_no_settings, has_open_leaf, is_close}
 use Rattle.cert_tree.proofs.Proving.{holds_proves}
 use Rattle.cert_tree.specs.Proving.{IsProved}
 use Rattle.coord_model.specs.Allowed.{AreOnSteps, IsAllowed}
 use Rattle.coord_model.specs.Choice.{Settings, choice_data}
 use Rattle.coord_model.specs.Cost.{CostsAtMost, IsBelowAll}
+use Rattle.coord_model.specs.Tree.{Tree}
 use Rattle.coord_model.specs.declared.choice.Choice.{Choice}
 use Rattle.coord_model.specs.declared.choice.Ending.{Ending}
 use Rattle.coord_model.specs.declared.choice.Ending.TheVariants.{Closed, NoSettings, BudgetSpent, Hairline}
-use Rattle.coord_run.specs.Asserted.{IsClose, IsHairline, IsSpent}
+use Rattle.coord_run.specs.Asserted.{HasNoSettings, IsClosed, IsHair, IsHairline, IsSpent}
 use Rattle.coord_run.specs.Shown.{IsShown}
 use Rattle.coord_run.specs.Solve.{ComesTo}
-use Rattle.coord_run.specs.SolveWords.{SolveWords}
+use Rattle.coord_words.specs.SolveWords.{SolveWords}
 use Rattle.coord_run.specs.Status.{ending_status}
-use Rattle.coord_run.proofs.EndingLaws.{both, close_says, closed_asks, hairline_asks, holds_short, holds_some, none_asks, spent_asks}
+use Rattle.coord_run.proofs.EndingLaws.{apart_says, both, close_says, closed_asks, hairline_asks, holds_short, holds_some, is_not, none_asks, spent_asks}
 use Rattle.margin_rows.specs.Case.{Case, row_at, rows_in}
 use Rattle.margin_rows.specs.FirstBox.{IsInFirstBox}
 use Rattle.margin_rows.specs.Least.{IsStrictLeast}
@@ -123,13 +124,30 @@ module _ (case : Case) (asked : SolveWords) (outcome : Outcome) (comes : ComesTo
       go (Some low) there = let no : ⊥ = cc in absurd no
 
   -- what each ending says
-  pub closed_says : outcome.ending ≡ Closed → IsClose comes.gap outcome
-  closed_says ends =
-      let says = close_says outcome.bound outcome.cost comes.gap (closed_asks _ _ _ _ _ (is.ending ∙ ap Some ends)) in
-      record { cost = says.0; bound = says.1; is_cost = says.2; is_bound = says.3; close = says.4 }
+  close : outcome.ending ≡ Closed → (cost : ℕ) × (low : ℕ) × (outcome.cost ≡ Some cost) × (outcome.bound ≡ Some low) × (cost ≤ low + comes.gap)
+  close ends = close_says outcome.bound outcome.cost comes.gap (closed_asks _ _ _ _ _ (is.ending ∙ ap Some ends))
 
-  pub none_says : outcome.ending ≡ NoSettings → (other : Settings) → ¬ (IsAllowed case.study case.currents other)
-  none_says ends = none_without_bound (no_bound ends)
+  pub closed_says : outcome.ending ≡ Closed → IsClosed comes.gap outcome
+  closed_says ends =
+      let says = close ends in
+      record {
+        issued = sym cost_there ∙ ap is_some says.2;
+        cost = says.0;
+        bound = says.1;
+        is_cost = says.2;
+        is_bound = says.3;
+        close = says.4;
+      }
+
+  pub none_says : outcome.ending ≡ NoSettings → HasNoSettings case outcome
+  none_says ends = record {
+    none_allowed = none_without_bound (no_bound ends);
+    none_issued = nothing_issued (no_bound ends);
+    leaves = ap has_no_settings is.tree ∙ none_asks _ _ _ _ _ (is.ending ∙ ap Some ends);
+  }
+
+  bound_at_spent : outcome.ending ≡ BudgetSpent → is_some outcome.bound ≡ true
+  bound_at_spent ends = bound_there ∙ ap not (spent_asks _ _ _ _ _ (is.ending ∙ ap Some ends)).0
 
   pub spent_says : outcome.ending ≡ BudgetSpent → IsSpent asked.budget outcome
   spent_says ends =
@@ -139,20 +157,46 @@ module _ (case : Case) (asked : SolveWords) (outcome : Outcome) (comes : ComesTo
         boxes_told = is.boxes ∙ all;
         boxes_worked = ap boxes is.tree ∙ all;
         box_open = ap has_open_leaf is.tree ∙ asks.0;
+        bound_there = bound_at_spent ends;
       }
 
-  pub hairline_says : outcome.ending ≡ Hairline → IsSomeAnd outcome.hair (λ hair. IsHairline case (choice_data hair.choice) hair.row)
-  hairline_says ends = go outcome.hair (is.hair_there ends) is.hair
+  hair_says : (place : HairPlace) → IsHairPlace case is.first comes.reached.state.tree place → IsHair case outcome place
+  hair_says place at = record {
+    box = is.first;
+    is_first_box = is.is_first;
+    first = subst (λ (t : Tree). IsFirstHair case is.first t place.row (choice_data place.choice)) (sym is.tree) at.is_first;
+    met = at.loose;
+    is_row = at.is_row;
+    unmet = at.unmet;
+    near = row_near case (choice_data place.choice) (row_at case place.row) comes.fits at.first_box (at_number case place.row at.is_row);
+  }
+
+  asks_of_hairline : outcome.ending ≡ Hairline
+      → (has_no_settings comes.reached.state.tree ≡ false) × (is_close outcome.bound outcome.cost comes.gap ≡ false)
+      × ((has_hair comes.reached.state.tree && not (has_open_leaf comes.reached.state.tree)) ≡ true)
+  asks_of_hairline ends = hairline_asks _ _ _ _ _ (is.ending ∙ ap Some ends)
+
+  bound_at_hairline : outcome.ending ≡ Hairline → is_some outcome.bound ≡ true
+  bound_at_hairline ends = bound_there ∙ ap not (asks_of_hairline ends).0
+
+  pub hairline_says : outcome.ending ≡ Hairline → IsHairline case comes.gap outcome
+  hairline_says ends = go outcome.hair outcome.bound refl refl (is.hair_there ends) is.hair (bound_at_hairline ends)
     where
-      go : (place : Option HairPlace) → IsSomeAnd place (λ hair. ⊤) → IfSome place (IsHairPlace case is.first comes.reached.state.tree)
-          → IsSomeAnd place (λ hair. IsHairline case (choice_data hair.choice) hair.row)
-      go None there is_place = there
-      go (Some hair) there is_place = record {
-        met = is_place.loose;
-        is_row = is_place.is_row;
-        unmet = is_place.unmet;
-        near = row_near case (choice_data hair.choice) (row_at case hair.row) comes.fits is_place.first_box (at_number case hair.row is_place.is_row);
-      }
+      go : (place : Option HairPlace) (low : Option ℕ) → outcome.hair ≡ place → outcome.bound ≡ low → IsSomeAnd place (λ hair. ⊤)
+          → IfSome place (IsHairPlace case is.first comes.reached.state.tree) → is_some low ≡ true → IsHairline case comes.gap outcome
+      go None low of_hair of_bound there is_place bounded = absurd there
+      go (Some hair) None of_hair of_bound there is_place bounded = let no : ⊥ = cc in absurd no
+      go (Some hair) (Some low) of_hair of_bound there is_place bounded =
+          let asks = asks_of_hairline ends in
+          record {
+            none_open = ap has_open_leaf is.tree ∙ is_not _ (both _ _ asks.2).1;
+            bound = low;
+            is_bound = of_bound;
+            apart = apart_says low outcome.cost comes.gap (subst (λ (b : Option ℕ). is_close b outcome.cost comes.gap ≡ false) of_bound asks.1);
+            place = hair;
+            is_place = of_hair;
+            hair = hair_says hair is_place;
+          }
 
   -- ---- it can be printed and written
 
@@ -160,7 +204,7 @@ module _ (case : Case) (asked : SolveWords) (outcome : Outcome) (comes : ComesTo
   shown_cost = go outcome.ending refl
     where
       go : (ending : Ending) → outcome.ending ≡ ending → CostGoesWith ending outcome.cost
-      go Closed ends = let close = closed_says ends in ap is_some close.is_cost
+      go Closed ends = ap is_some (close ends).2
       go NoSettings ends = cost_there ∙ ap is_some (nothing_issued (no_bound ends))
       go BudgetSpent ends = tt
       go Hairline ends = tt
@@ -169,10 +213,10 @@ module _ (case : Case) (asked : SolveWords) (outcome : Outcome) (comes : ComesTo
   shown_bound = go outcome.ending refl
     where
       go : (ending : Ending) → outcome.ending ≡ ending → BoundGoesWith ending outcome.bound
-      go Closed ends = let close = closed_says ends in ap is_some close.is_bound
+      go Closed ends = ap is_some (close ends).3
       go NoSettings ends = ap is_some (no_bound ends)
-      go BudgetSpent ends = bound_there ∙ ap not (spent_asks _ _ _ _ _ (is.ending ∙ ap Some ends)).0
-      go Hairline ends = bound_there ∙ ap not (hairline_asks _ _ _ _ _ (is.ending ∙ ap Some ends))
+      go BudgetSpent ends = bound_at_spent ends
+      go Hairline ends = bound_at_hairline ends
 
   short : IsShort outcome.cost
   short = rw cost_is (go outcome.issued issued_first)
@@ -219,22 +263,6 @@ module _ (case : Case) (asked : SolveWords) (outcome : Outcome) (comes : ComesTo
 -- ---- statuses
 
 -- what ending a status is of
-pub closed_of : (ending : Ending) (issued : Bool) → ending_status ending issued ≡ 0 → ending ≡ Closed
-closed_of Closed issued is = refl
-closed_of NoSettings issued is = absurd (omega (arith, is))
-closed_of BudgetSpent true is = absurd (omega (arith, is))
-closed_of BudgetSpent false is = absurd (omega (arith, is))
-closed_of Hairline true is = absurd (omega (arith, is))
-closed_of Hairline false is = absurd (omega (arith, is))
-
-pub none_of : (ending : Ending) (issued : Bool) → ending_status ending issued ≡ 3 → ending ≡ NoSettings
-none_of Closed issued is = absurd (omega (arith, is))
-none_of NoSettings issued is = refl
-none_of BudgetSpent true is = absurd (omega (arith, is))
-none_of BudgetSpent false is = absurd (omega (arith, is))
-none_of Hairline true is = absurd (omega (arith, is))
-none_of Hairline false is = absurd (omega (arith, is))
-
 pub spent_of : (ending : Ending) (issued : Bool) → 4 ≤ ending_status ending issued → ending_status ending issued ≤ 5 → ending ≡ BudgetSpent
 spent_of Closed issued from to = absurd (omega (arith, from))
 spent_of NoSettings issued from to = absurd (omega (arith, from))

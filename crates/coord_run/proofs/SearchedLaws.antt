@@ -12,10 +12,9 @@ use Rattle.coord_model.specs.declared.choice.Ending.{Ending}
 use Rattle.coord_model.specs.declared.choice.Ending.TheVariants.{BudgetSpent, Closed, Hairline, NoSettings}
 use Rattle.coord_model.specs.declared.study.Row.{Row}
 use Rattle.coord_run.specs.Answers.{HasExactTimes, IsExactTime, IsSearched}
-use Rattle.coord_run.specs.Headline.{IsEnding}
 use Rattle.coord_run.specs.Solve.{ComesTo}
-use Rattle.coord_run.specs.SolveWords.{SolveWords}
-use Rattle.coord_run.specs.Status.{ending_status, outcome_status}
+use Rattle.coord_words.specs.SolveWords.{SolveWords}
+use Rattle.coord_run.specs.Status.{IsEnding, ending_status, outcome_status}
 use Rattle.coord_run.proofs.OutcomeLaws.{hairline_of, spent_of}
 use Rattle.margin_rows.proofs.Boxed.{pickup_first}
 use Rattle.margin_rows.proofs.Listed.{at_number, row_facts}

@@ -5,7 +5,7 @@ use Rattle.coord_io.specs.Outside.{FolderState, Told}
 use Rattle.coord_run.specs.End.{OutputData}
 use Rattle.coord_run.specs.Inputs.{AreInputs}
 use Rattle.coord_run.specs.Solve.{ComesTo, IsGapTooSmall, IsSolved, SolveCause, output_of}
-use Rattle.coord_run.specs.SolveWords.{IsAsked, SolveWords}
+use Rattle.coord_words.specs.SolveWords.{IsAsked, SolveWords}
 use Rattle.coord_run.proofs.CertLaws.{cert_fits, cert_right}
 use Rattle.coord_run.specs.Stops.{StopsFor}
 use Rattle.coord_run.specs.declared.refusal.Stop.{Stop}

@@ -7,10 +7,10 @@ use Rattle.coord_io.specs.Files.{Files}
 use Rattle.coord_io.specs.Outside.{FolderState, SinkState}
 use Rattle.coord_model.specs.StudyData.{StudyData}
 use Rattle.coord_run.specs.Given.{IsRightFile, IsSheetOf, MakeCase, NothingFails}
-use Rattle.coord_run.specs.Headline.{IsEnding}
+use Rattle.coord_run.specs.Status.{IsEnding}
 use Rattle.coord_run.specs.Inputs.{IsNetwork}
-use Rattle.coord_run.specs.SolveWords.{SolveWords}
-use Rattle.coord_run.specs.Words.{Command, check, drill, margins, pairs, solve}
+use Rattle.coord_words.specs.SolveWords.{SolveWords}
+use Rattle.coord_words.specs.Words.{Command, check, drill, margins, pairs, solve}
 use Rattle.margin_rows.specs.Box.{Box, IsFirstBox}
 use Rattle.margin_rows.specs.Case.{Case, rows_in}
 use Rattle.margin_rows.specs.FirstBox.{IsFirstStep}

@@ -13,7 +13,7 @@ use Rattle.coord_run.specs.Causes.{CaseCause, FileCause}
 use Rattle.coord_run.specs.End.{Ends, OutputData}
 use Rattle.coord_run.specs.Inputs.{ReadsCase}
 use Rattle.coord_run.specs.RowLine.{fault_name, relay_name}
-use Rattle.coord_run.specs.SolveWords.{FileNames}
+use Rattle.coord_words.specs.SolveWords.{FileNames}
 use Rattle.coord_run.specs.declared.claim_fault.ClaimFault.{ClaimFault}
 use Rattle.coord_run.specs.declared.claim_fault.ClaimFault.TheVariants.{Study, Relays, Step, Row, Cost, Boxes, Bound, Gap, EndingIs}
 use Rattle.coord_run.specs.declared.refusal.File.TheVariants as file

@@ -7,6 +7,7 @@ use Rattle.coord_io.specs.Outside.{SinkState}
 use Rattle.coord_run.specs.Headline.{Asserts}
 use Rattle.coord_run.specs.Printing.{Prints}
 use Rattle.coord_run.specs.Report.{report_text}
+use Rattle.coord_run.specs.Status.{outcome_status}
 use Rattle.drill_ring.specs.Drill.{drill_data}
 use Rattle.drill_ring.specs.DrillCurrents.{drill_currents}
 use Rattle.margin_rows.specs.Case.{Case, rows_in}
@@ -33,8 +34,9 @@ pub record IsDrilled (n : ℕ) (report : List ℕ) (status : ℕ) : Type 0 where
   pub outcome : Outcome
   pub gap : ℕ
   pub gap_is : IsDrillGap (drill_case n) gap
-  pub truth : Asserts (drill_case n) gap 200 outcome status
+  pub truth : Asserts (drill_case n) gap 200 outcome
   pub report_is : report ≡ drill_report n (drill_case n) outcome
+  pub status_is : status ≡ outcome_status outcome
 
 -- such a report is printed with its status, or memory ran out before: nothing is printed and the status is 30
 abbrev pub Drills : ℕ → SinkState → SinkState → ℕ → Type 0

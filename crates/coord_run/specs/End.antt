@@ -6,7 +6,7 @@ use Rattle.coord_io.specs.Outside.{Changes, FolderState, IsReadAlone, SinkState}
 use Rattle.coord_run.specs.Printing.{Prints}
 use Rattle.coord_run.specs.RefusalText.{refusal_text, write_fault_text}
 use Rattle.coord_run.specs.Status.{refusal_status}
-use Rattle.coord_run.specs.SolveWords.{FileNames}
+use Rattle.coord_words.specs.SolveWords.{FileNames}
 use Rattle.coord_run.specs.declared.refusal.Refusal.{Refusal}
 
 -- a text for the file of a name

@@ -10,7 +10,7 @@ use Rattle.coord_model.specs.Choice.{Settings}
 use Rattle.coord_run.specs.FileLimits.{most_bytes_of}
 use Rattle.coord_run.specs.Inputs.{AreInputs}
 use Rattle.coord_run.specs.Settings.{FitFirstBox, GivesSettings}
-use Rattle.coord_run.specs.SolveWords.{FileNames}
+use Rattle.coord_words.specs.SolveWords.{FileNames}
 use Rattle.coord_run.specs.declared.refusal.File.TheVariants as file
 use Rattle.margin_rows.specs.Case.{Case, rows_in}
 

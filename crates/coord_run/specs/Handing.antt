@@ -7,7 +7,7 @@ use Rattle.coord_run.specs.End.{AreCutAt, AreWritten, FileText, OutputData}
 use Rattle.coord_run.specs.Printing.{Prints, PrintsUnlessMemory}
 use Rattle.coord_run.specs.RefusalText.{refusal_text, write_fault_text}
 use Rattle.coord_run.specs.Status.{refusal_status}
-use Rattle.coord_run.specs.SolveWords.{FileNames}
+use Rattle.coord_words.specs.SolveWords.{FileNames}
 use Rattle.coord_run.specs.declared.end.NewCert.{NewCert}
 use Rattle.coord_run.specs.declared.end.NewFile.{NewFile}
 use Rattle.coord_run.specs.declared.end.NewFiles.{NewFiles}

@@ -13,7 +13,6 @@ pub mod Headline
 pub mod Inputs
 pub mod Margins
 pub mod Names
-pub mod OptionNumbers
 pub mod Pairs
 pub mod Pieces
 pub mod Printing
@@ -22,13 +21,8 @@ pub mod RefusalText
 pub mod RefusalWords
 pub mod Report
 pub mod RowLine
-pub mod Rules
-pub mod SaidUses
 pub mod Settings
 pub mod Shown
 pub mod Solve
-pub mod SolveWords
 pub mod Status
 pub mod Stops
-pub mod Uses
-pub mod Words

@@ -11,7 +11,7 @@ use Rattle.coord_run.specs.Inputs.{ReadsCase}
 use Rattle.coord_run.specs.RowLine.{is_kept, row_text}
 use Rattle.coord_run.specs.declared.refusal.Refusal.{Refusal}
 use Rattle.coord_run.specs.Settings.{FitFirstBox, GivesSettings, SettingsCause}
-use Rattle.coord_run.specs.SolveWords.{FileNames}
+use Rattle.coord_words.specs.SolveWords.{FileNames}
 use Rattle.margin_rows.specs.Case.{Case, rows_in}
 
 -- how many rows the settings meet strictly

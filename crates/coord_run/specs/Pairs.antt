@@ -10,7 +10,7 @@ use Rattle.coord_run.specs.End.{Ends, OutputData}
 use Rattle.coord_run.specs.Inputs.{IsNetwork}
 use Rattle.coord_io.specs.Outside.{FolderState, SinkState, Told}
 use Rattle.coord_run.specs.RowLine.{relay_name}
-use Rattle.coord_run.specs.Words.{only}
+use Rattle.coord_words.specs.Words.{only}
 
 -- the line of a pair
 unfoldable pub pair_text : List ℕ → List ℕ → List ℕ

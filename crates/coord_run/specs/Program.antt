@@ -7,7 +7,7 @@ use Rattle.coord_io.specs.Outside.{FolderState, SinkState}
 use Rattle.coord_run.specs.Printing.{PrintsUnlessMemory}
 use Rattle.coord_run.specs.Pairs.{ListsPairs}
 use Rattle.coord_run.specs.Solve.{Solves}
-use Rattle.coord_run.specs.Words.{Command, check, drill, margins, pairs, solve}
+use Rattle.coord_words.specs.Words.{Command, check, drill, margins, pairs, solve}
 
 -- the line for words that fit no command
 abbrev pub usage_text : List ℕ

@@ -8,7 +8,7 @@ use Rattle.coord_model.specs.declared.kinds.What.{What}
 use Rattle.coord_run.specs.CertRefusals.{cert_claim_text, cert_line_text, cert_node_text}
 use Rattle.coord_run.specs.FileLimits.{most_bytes_of}
 use Rattle.coord_run.specs.RefusalWords.{due_word, kind_word, table_word, what_word, key_text}
-use Rattle.coord_run.specs.SolveWords.{FileNames}
+use Rattle.coord_words.specs.SolveWords.{FileNames}
 use Rattle.coord_run.specs.declared.refusal.File.{File}
 use Rattle.coord_run.specs.declared.refusal.File.TheVariants as file
 use Rattle.coord_run.specs.declared.refusal.Refusal.{Refusal}

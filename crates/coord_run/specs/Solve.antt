@@ -11,7 +11,7 @@ use Rattle.coord_run.specs.Certified.{cert_of}
 use Rattle.coord_run.specs.End.{Ends, OutputData}
 use Rattle.coord_run.specs.Inputs.{AreInputs, ReadsCase}
 use Rattle.coord_run.specs.Report.{report_text, sheet_of}
-use Rattle.coord_run.specs.SolveWords.{SolveWords}
+use Rattle.coord_words.specs.SolveWords.{SolveWords}
 use Rattle.coord_run.specs.Status.{outcome_status}
 use Rattle.coord_run.specs.declared.refusal.Refusal.{Refusal}
 use Rattle.coord_run.specs.declared.refusal.Refusal.TheVariants.{GapTooSmall}

@@ -1,6 +1,6 @@
 -- The statuses of the program (ours): that of a refusal and that of an outcome. A call for whose words there is no command
 -- has status 2, a write that failed 11, and want of memory 30.
-use Rattle.std.specs.Prelude.{ℕ, Bool, is_some, if◌then◌else◌}
+use Rattle.std.specs.Prelude.{◌≡◌, ◌⊎◌, ℕ, Bool, is_some, if◌then◌else◌}
 use Rattle.branch_bound.specs.declared.outcome.Outcome.{Outcome}
 use Rattle.coord_model.specs.declared.choice.Ending.{Ending}
 use Rattle.coord_model.specs.declared.choice.Ending.TheVariants.{BudgetSpent, Closed, Hairline, NoSettings}
@@ -40,3 +40,9 @@ ending_status Hairline issued = if issued then 6 else 7
 -- the status of an outcome
 abbrev pub outcome_status : Outcome → ℕ
 outcome_status outcome = ending_status outcome.ending (is_some outcome.issued)
+
+-- the status is that of an ending: closed, no settings, a spent budget or a hairline, these two with
+-- or without settings
+abbrev pub IsEnding : ℕ → Type 0
+IsEnding status =
+    (status ≡ 0) ⊎ ((status ≡ 3) ⊎ ((status ≡ 4) ⊎ ((status ≡ 5) ⊎ ((status ≡ 6) ⊎ (status ≡ 7)))))

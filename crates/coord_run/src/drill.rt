@@ -2,7 +2,7 @@
 ghost use Rattle.std.specs.Prelude.{◌≡◌, ◌^◌, ◌≤◌, ℕ, ◌++◌, IfOk, OnOk};
 ghost use Rattle.branch_bound.specs.Outcome.{IsReached};
 ghost use Rattle.coord_run.specs.Drill.{Drills, IsDrillGap, IsDrilled, drill_case, drill_report, drill_text};
-ghost use Rattle.coord_run.specs.OptionNumbers.{IsRing};
+ghost use Rattle.coord_words.specs.OptionNumbers.{IsRing};
 ghost use Rattle.coord_run.specs.Shown.{IsShown};
 ghost use Rattle.margin_rows.specs.Case.{FitsCase};
 ghost use Rattle.margin_rows.specs.Gap.{IsLeastGap};

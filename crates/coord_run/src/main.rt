@@ -22,7 +22,6 @@ mod refusal_line;
 mod refusal_words;
 mod report;
 mod row_line;
-mod rules;
 mod settings;
 mod solve;
 mod status;

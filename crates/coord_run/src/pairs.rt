@@ -8,7 +8,7 @@ ghost use Rattle.coord_run.specs.Handing.{IsWritable, output_data};
 ghost use Rattle.coord_run.specs.Names.{names_data};
 ghost use Rattle.coord_run.specs.Pairs.{IsPairsOutput, ListsPairs, count_text, pair_text, pair_texts, pairs_text};
 ghost use Rattle.coord_run.specs.Stops.{StopsFor};
-ghost use Rattle.coord_run.specs.Words.{only};
+ghost use Rattle.coord_words.specs.Words.{only};
 
 use crate::end::{Output, hand_over};
 use crate::inputs::read_study;

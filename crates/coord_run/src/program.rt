@@ -1,12 +1,14 @@
 //! The whole call of the program.
 ghost use Rattle.std.specs.Prelude.{◌≡◌, Some, map, string_bytes};
-ghost use Rattle.coord_run.specs.SolveWords.{SolveWords};
-ghost use Rattle.coord_run.specs.Names.{command_data, names_data};
+ghost use Rattle.coord_words.specs.SolveWords.{SolveWords};
+ghost use Rattle.coord_run.specs.Names.{names_data};
+ghost use Rattle.coord_words.specs.Names.{command_data};
 ghost use Rattle.coord_run.specs.Answers.{MustAnswer};
 ghost use Rattle.coord_run.specs.Headline.{Headline};
 ghost use Rattle.coord_run.specs.Printing.{Prints};
 ghost use Rattle.coord_run.specs.Program.{Does, usage_text};
-ghost use Rattle.coord_run.specs.Words.{MayAsk, command_of, solve, three_files};
+ghost use Rattle.coord_words.specs.Table.{command_of};
+ghost use Rattle.coord_words.specs.Words.{MayAsk, solve, three_files};
 
 use crate::check::check;
 use crate::drill::drill;

@@ -9,7 +9,7 @@ ghost use Rattle.coord_run.specs.Handing.{AreWritable, IsWritable, both_texts, o
 ghost use Rattle.coord_run.specs.Headline.{Headline};
 ghost use Rattle.coord_run.specs.Names.{asked_data, names_data};
 ghost use Rattle.coord_run.specs.Solve.{ComesTo, IsGapFor, IsGapTooSmall, IsSolved, SolveCause, Solves, output_of};
-ghost use Rattle.coord_run.specs.SolveWords.{IsAsked};
+ghost use Rattle.coord_words.specs.SolveWords.{IsAsked};
 ghost use Rattle.coord_run.specs.Shown.{IsShown};
 ghost use Rattle.coord_run.specs.Stops.{StopsFor};
 ghost use Rattle.margin_rows.specs.Case.{FitsCase};

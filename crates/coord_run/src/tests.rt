@@ -15,7 +15,6 @@ mod margins;
 mod quiet;
 mod refusals;
 mod searches;
-mod words;
 
 use crate::program::run;
 use coord_io::{CallKind, Fail, Folder, MemFile, MemFolder, MemSink, names_differ};

@@ -1,6 +1,6 @@
 use Rattle.coord_run.specs.Causes.{NetworkCause}
 use Rattle.coord_run.specs.Pairs.{IsPairsOutput}
-use Rattle.coord_run.specs.Words.{only}
+use Rattle.coord_words.specs.Words.{only}
 use Rattle.coord_run.proofs.EndLaws.{ends}
 use Rattle.coord_run.proofs.MovingLaws.{pairs_moves}
 use Rattle.coord_run.proofs.pairs.pairs.Goals as goal

@@ -2,7 +2,7 @@ use Rattle.std.proofs.Common.{Option, Some, None, le_refl, refl, inr}
 use Rattle.coord_io.specs.Outside.{FolderState, IsReadAlone, SinkState}
 use Rattle.coord_run.specs.End.{no_memory}
 use Rattle.coord_run.specs.Program.{Does}
-use Rattle.coord_run.specs.Words.{Command, check, drill, margins, pairs, solve}
+use Rattle.coord_words.specs.Words.{Command, check, drill, margins, pairs, solve}
 use Rattle.coord_run.proofs.program.obey.Goals as goal
 
 untouched : (folder : FolderState) → IsReadAlone folder folder

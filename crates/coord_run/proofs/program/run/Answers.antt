@@ -1,6 +1,6 @@
 use Rattle.std.proofs.Common.{subst, Option}
 use Rattle.coord_run.specs.Program.{Does}
-use Rattle.coord_run.specs.Words.{Command}
+use Rattle.coord_words.specs.Words.{Command}
 use Rattle.coord_run.proofs.AnswerLaws.{must_answer}
 use Rattle.coord_run.proofs.HeadlineLaws.{headline}
 use Rattle.coord_run.proofs.program.run.Goals as goal

@@ -1,4 +1,4 @@
-use Rattle.coord_run.specs.SolveWords.{SolveWords}
+use Rattle.coord_words.specs.SolveWords.{SolveWords}
 use Rattle.coord_run.proofs.AnswerLaws.{must_solve}
 use Rattle.coord_run.proofs.HeadlineLaws.{headline}
 use Rattle.coord_run.proofs.solve.solve_with.Goals as goal

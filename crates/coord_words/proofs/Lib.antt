@@ -1,0 +1,5 @@
+mod ClapWalk
+mod KeptWords
+mod NameLaws
+mod NumberLaws
+mod WordKinds

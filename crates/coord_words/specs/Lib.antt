@@ -1,0 +1,10 @@
+pub mod Kept
+pub mod Line
+pub mod Names
+pub mod OptionNumbers
+pub mod Rules
+pub mod SaidUses
+pub mod SolveWords
+pub mod Table
+pub mod Uses
+pub mod Words
